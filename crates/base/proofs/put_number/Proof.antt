@@ -1,0 +1,19 @@
+use native.Mathlib.Omega.{arith}
+use Rattle.base.proofs.Numbers.{low-length}
+use Rattle.base.proofs.Put.{puts-full, puts-room}
+use borrow.Author.Needs.{needs}
+use Rattle.base.proofs.put_number.Statement.{statement}
+use Rattle.base.proofs.put_number.Tie as tie
+
+returns : tie.Need-returns
+returns c = puts-full _ (low-length _ _) (omega arith)
+
+returns-2 : tie.Need-returns-2
+returns-2 c = puts-full _ (low-length _ _) (omega arith)
+
+returns-3 : tie.Need-returns-3
+returns-3 c = puts-room _ (low-length _ _) (omega arith) (search needs)
+
+pub put-number-spec : {M : Type 1} → statement M
+put-number-spec =
+    tie.close (tie.spec returns (λ c. search needs) returns-2 (λ c κs. search needs) (λ c. search needs) returns-3)

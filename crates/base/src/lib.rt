@@ -1,0 +1,93 @@
+// What all crates share: bytes and numbers laid over lent memory, and numbers read from it.
+// A writer that finds no room changes nothing and answers the place that it was given.
+ghost use mathlib.Core.Path.{_≡_};
+ghost use Prim.Native.Nat.{_+_, _≤_, _<_};
+ghost use lib.ListN.{length, take, drop};
+ghost use Rattle.base.specs.Numbers.{lowFirst, number};
+ghost use Rattle.base.specs.Put.{Wrote, Puts};
+
+fn lay_all(out: &mut [u8], at: usize, bytes: &[u8]) -> usize
+    requires { ⌜ at + length (now bytes) ≤ length (now out) ⌝ }
+    ensures { λ r. ⌜ Wrote (now (out .entry)) at (now (bytes .entry)) r (now (out .exit)) ⌝ }
+{
+    let mut i = 0;
+    while i < bytes.len() {
+        out[at + i] = bytes[i];
+        i += 1;
+    }
+    at + i
+}
+
+// These bytes from a place on. The answer is the place behind them.
+pub fn put_all(out: &mut [u8], at: usize, bytes: &[u8]) -> usize
+    ensures { λ r. ⌜ Puts (now (out .entry)) at (now (bytes .entry)) r (now (out .exit)) ⌝ }
+{
+    if out.len() < at {
+        return at;
+    }
+    if out.len() - at < bytes.len() {
+        return at;
+    }
+    lay_all(out, at, bytes)
+}
+
+fn lay_number(out: &mut [u8], at: usize, k: usize, n: u64) -> usize
+    requires { ⌜ at + k ≤ length (now out) ⌝ }
+    ensures { λ r. ⌜ Wrote (now (out .entry)) at (lowFirst k n) r (now (out .exit)) ⌝ }
+{
+    let mut i = 0;
+    let mut rest = n;
+    while i < k {
+        out[at + i] = (rest % 256) as u8;
+        rest /= 256;
+        i += 1;
+    }
+    at + i
+}
+
+// The low k bytes of a number, low byte first, from a place on: a word has 2, a long 4.
+pub fn put_number(out: &mut [u8], at: usize, k: usize, n: u64) -> usize
+    ensures { λ r. ⌜ Puts (now (out .entry)) at (lowFirst k n) r (now (out .exit)) ⌝ }
+{
+    if out.len() < at {
+        return at;
+    }
+    if out.len() - at < k {
+        return at;
+    }
+    lay_number(out, at, k, n)
+}
+
+fn wide(b: u8) -> u16
+    ensures { λ r. ⌜ (r ≡ b) × (r < 256) ⌝ }
+{
+    b as u16
+}
+
+// The word at a place; bytes that are missing count as 0.
+pub fn word_at(s: &[u8], at: usize) -> u16
+    ensures { λ r. ⌜ r ≡ number (take 2 (drop at (now (s .entry)))) ⌝ }
+{
+    if s.len() <= at {
+        return 0;
+    }
+    let low = wide(s[at]);
+    if s.len() - at < 2 {
+        return low;
+    }
+    low + 256 * wide(s[at + 1])
+}
+
+// The long at a place; bytes that are missing count as 0.
+pub fn long_at(s: &[u8], at: usize) -> u32
+    ensures { λ r. ⌜ r ≡ number (take 4 (drop at (now (s .entry)))) ⌝ }
+{
+    if s.len() <= at {
+        return 0;
+    }
+    let low = word_at(s, at) as u32;
+    if s.len() - at < 2 {
+        return low;
+    }
+    low + 65536 * (word_at(s, at + 2) as u32)
+}
