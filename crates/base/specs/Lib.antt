@@ -1,2 +1,3 @@
+pub mod Chars
 pub mod Numbers
 pub mod Put

@@ -3,6 +3,7 @@
 ghost use mathlib.Core.Path.{_≡_};
 ghost use Prim.Native.Nat.{_+_, _≤_, _<_};
 ghost use lib.ListN.{length, take, drop};
+ghost use Rattle.base.specs.Chars.{letter as Chars·letter, spelled};
 ghost use Rattle.base.specs.Numbers.{lowFirst, number};
 ghost use Rattle.base.specs.Put.{Wrote, Puts};
 
@@ -90,4 +91,37 @@ pub fn long_at(s: &[u8], at: usize) -> u32
         return low;
     }
     low + 65536 * (word_at(s, at + 2) as u32)
+}
+
+// A byte as it is compared: where any case counts, a small letter is its capital one.
+fn letter(b: u8, any_case: bool) -> u8
+    ensures { λ r. ⌜ r ≡ Chars·letter «any_case» b ⌝ }
+{
+    if !any_case {
+        return b;
+    }
+    if b < 97 {
+        return b;
+    }
+    if b > 122 {
+        return b;
+    }
+    b - 32
+}
+
+// Is `s` the text `name`? Where any case counts, `name` has capital letters.
+pub fn spells(s: &[u8], name: &[u8], any_case: bool) -> bool
+    ensures { λ r. ⌜ r ≡ spelled «any_case» (now (name .entry)) (now (s .entry)) ⌝ }
+{
+    if s.len() != name.len() {
+        return false;
+    }
+    let mut i = 0;
+    while i < name.len() {
+        if letter(s[i], any_case) != name[i] {
+            return false;
+        }
+        i += 1;
+    }
+    true
 }
