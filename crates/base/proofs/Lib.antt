@@ -2,3 +2,4 @@ pub mod Chars
 pub mod Numbers
 pub mod Parts
 pub mod Put
+pub mod Table

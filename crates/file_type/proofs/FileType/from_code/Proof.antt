@@ -1,0 +1,28 @@
+use borrow.Author.Needs.{needs}
+use Rattle.file_type.proofs.Table.{has-code, no-code}
+use Rattle.file_type.proofs.FileType.from_code.Statement.{statement}
+use Rattle.file_type.proofs.FileType.from_code.Tie as tie
+
+unknown : tie.Need-returns-16
+unknown c = no-code _ (c .match .rest)
+
+pub from-code-spec : {M : Type 1} → statement M
+from-code-spec =
+    tie.close
+    (tie.spec
+    (λ c. search (has-code, needs))
+    (λ c. search (has-code, needs))
+    (λ c. search (has-code, needs))
+    (λ c. search (has-code, needs))
+    (λ c. search (has-code, needs))
+    (λ c. search (has-code, needs))
+    (λ c. search (has-code, needs))
+    (λ c. search (has-code, needs))
+    (λ c. search (has-code, needs))
+    (λ c. search (has-code, needs))
+    (λ c. search (has-code, needs))
+    (λ c. search (has-code, needs))
+    (λ c. search (has-code, needs))
+    (λ c. search (has-code, needs))
+    (λ c. search (has-code, needs))
+    unknown)

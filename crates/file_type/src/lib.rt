@@ -1,0 +1,295 @@
+// Data file types: names, PCCC type codes, element sizes, and the names of words and status bits in T, C and R.
+ghost use mathlib.Core.Path.{_≡_};
+ghost use mathlib.Core.List.{[]};
+ghost use lib.ListN.{length, getD};
+ghost use Rattle.file_type.specs.Fields.{firstField};
+ghost use Rattle.file_type.specs.Table.{row, Named, ofCode, ofName, bitNames, wordNames, fieldNames, ofField};
+
+pub enum FileType {
+    O,
+    I,
+    S,
+    B,
+    T,
+    C,
+    R,
+    N,
+    F,
+    ST,
+    A,
+    L,
+    MG,
+    PD,
+    PLS,
+}
+
+// What a code or a name stands for.
+pub enum Known {
+    Is(FileType),
+    Unknown,
+}
+
+// A name: its first `len` bytes.
+pub struct Name {
+    pub text: [u8; 3],
+    pub len: usize,
+}
+
+// What a name stands for in an element of T, C or R: word 1 or 2, or a bit of word 0.
+pub enum Field {
+    Word(u8),
+    Bit(u8),
+    Unknown,
+}
+
+impl FileType {
+    // The PCCC type code.
+    pub fn code(self) -> u8
+        ensures { λ r. ⌜ r ≡ row self .code ⌝ }
+    {
+        match self {
+            FileType::O => 0x82,
+            FileType::I => 0x83,
+            FileType::S => 0x84,
+            FileType::B => 0x85,
+            FileType::T => 0x86,
+            FileType::C => 0x87,
+            FileType::R => 0x88,
+            FileType::N => 0x89,
+            FileType::F => 0x8A,
+            FileType::ST => 0x8D,
+            FileType::A => 0x8E,
+            FileType::L => 0x91,
+            FileType::MG => 0x92,
+            FileType::PD => 0x93,
+            FileType::PLS => 0x94,
+        }
+    }
+
+    // The type of a code.
+    pub fn from_code(code: u8) -> Known
+        ensures { λ r. ⌜ r ≡ ofCode code ⌝ }
+    {
+        match code {
+            0x82 => Known::Is(FileType::O),
+            0x83 => Known::Is(FileType::I),
+            0x84 => Known::Is(FileType::S),
+            0x85 => Known::Is(FileType::B),
+            0x86 => Known::Is(FileType::T),
+            0x87 => Known::Is(FileType::C),
+            0x88 => Known::Is(FileType::R),
+            0x89 => Known::Is(FileType::N),
+            0x8A => Known::Is(FileType::F),
+            0x8D => Known::Is(FileType::ST),
+            0x8E => Known::Is(FileType::A),
+            0x91 => Known::Is(FileType::L),
+            0x92 => Known::Is(FileType::MG),
+            0x93 => Known::Is(FileType::PD),
+            0x94 => Known::Is(FileType::PLS),
+            _ => Known::Unknown,
+        }
+    }
+
+    // Bytes an element has.
+    pub fn element_size(self) -> usize
+        ensures { λ r. ⌜ r ≡ row self .size ⌝ }
+    {
+        match self {
+            FileType::O => 2,
+            FileType::I => 2,
+            FileType::S => 2,
+            FileType::B => 2,
+            FileType::T => 6,
+            FileType::C => 6,
+            FileType::R => 6,
+            FileType::N => 2,
+            FileType::F => 4,
+            FileType::ST => 84,
+            FileType::A => 2,
+            FileType::L => 4,
+            FileType::MG => 50,
+            FileType::PD => 46,
+            FileType::PLS => 12,
+        }
+    }
+
+    // Is it one of the simulator's twelve?
+    pub fn simulated(self) -> bool
+        ensures { λ r. ⌜ r ≡ row self .simulated ⌝ }
+    {
+        match self {
+            FileType::O => true,
+            FileType::I => true,
+            FileType::S => true,
+            FileType::B => true,
+            FileType::T => true,
+            FileType::C => true,
+            FileType::R => true,
+            FileType::N => true,
+            FileType::F => true,
+            FileType::ST => true,
+            FileType::A => true,
+            FileType::L => true,
+            FileType::MG => false,
+            FileType::PD => false,
+            FileType::PLS => false,
+        }
+    }
+
+    // The name as the Rust spells it.
+    pub fn name(self) -> Name
+        ensures { λ r. ⌜ Named (row self .name) r ⌝ }
+    {
+        match self {
+            FileType::O => Name {
+                text: [b'O', 0, 0],
+                len: 1,
+            },
+            FileType::I => Name {
+                text: [b'I', 0, 0],
+                len: 1,
+            },
+            FileType::S => Name {
+                text: [b'S', 0, 0],
+                len: 1,
+            },
+            FileType::B => Name {
+                text: [b'B', 0, 0],
+                len: 1,
+            },
+            FileType::T => Name {
+                text: [b'T', 0, 0],
+                len: 1,
+            },
+            FileType::C => Name {
+                text: [b'C', 0, 0],
+                len: 1,
+            },
+            FileType::R => Name {
+                text: [b'R', 0, 0],
+                len: 1,
+            },
+            FileType::N => Name {
+                text: [b'N', 0, 0],
+                len: 1,
+            },
+            FileType::F => Name {
+                text: [b'F', 0, 0],
+                len: 1,
+            },
+            FileType::ST => Name {
+                text: [b'S', b'T', 0],
+                len: 2,
+            },
+            FileType::A => Name {
+                text: [b'A', 0, 0],
+                len: 1,
+            },
+            FileType::L => Name {
+                text: [b'L', 0, 0],
+                len: 1,
+            },
+            FileType::MG => Name {
+                text: [b'M', b'G', 0],
+                len: 2,
+            },
+            FileType::PD => Name {
+                text: [b'P', b'D', 0],
+                len: 2,
+            },
+            FileType::PLS => Name {
+                text: [b'P', b'L', b'S'],
+                len: 3,
+            },
+        }
+    }
+
+    // How many fields of an element have a name: words 1 and 2, and the status bits.
+    fn fields(self) -> usize
+        ensures { λ r. ⌜ r ≡ length (fieldNames self) ⌝ }
+    {
+        match self {
+            FileType::O => 0,
+            FileType::I => 0,
+            FileType::S => 0,
+            FileType::B => 0,
+            FileType::T => 5,
+            FileType::C => 8,
+            FileType::R => 10,
+            FileType::N => 0,
+            FileType::F => 0,
+            FileType::ST => 0,
+            FileType::A => 0,
+            FileType::L => 0,
+            FileType::MG => 0,
+            FileType::PD => 0,
+            FileType::PLS => 0,
+        }
+    }
+
+    // Where its names begin in FIELD_NAMES.
+    fn first_field(self) -> usize
+        ensures { λ r. ⌜ r ≡ firstField self ⌝ }
+    {
+        match self {
+            FileType::O => 0,
+            FileType::I => 0,
+            FileType::S => 0,
+            FileType::B => 0,
+            FileType::T => 0,
+            FileType::C => 5,
+            FileType::R => 13,
+            FileType::N => 0,
+            FileType::F => 0,
+            FileType::ST => 0,
+            FileType::A => 0,
+            FileType::L => 0,
+            FileType::MG => 0,
+            FileType::PD => 0,
+            FileType::PLS => 0,
+        }
+    }
+}
+
+// The names of words 1 and 2 and of the bits from 15 down, of T, C and R.
+const FIELD_NAMES: [[u8; 3]; 23] = [
+    [b'P', b'R', b'E'],
+    [b'A', b'C', b'C'],
+    [b'E', b'N', 0],
+    [b'T', b'T', 0],
+    [b'D', b'N', 0],
+    [b'P', b'R', b'E'],
+    [b'A', b'C', b'C'],
+    [b'C', b'U', 0],
+    [b'C', b'D', 0],
+    [b'D', b'N', 0],
+    [b'O', b'V', 0],
+    [b'U', b'N', 0],
+    [b'U', b'A', 0],
+    [b'L', b'E', b'N'],
+    [b'P', b'O', b'S'],
+    [b'E', b'N', 0],
+    [b'E', b'U', 0],
+    [b'D', b'N', 0],
+    [b'E', b'M', 0],
+    [b'E', b'R', 0],
+    [b'U', b'L', 0],
+    [b'I', b'N', 0],
+    [b'F', b'D', 0],
+];
+
+fn field_name(t: FileType, i: usize) -> Name
+    ensures { λ r. ⌜ Named (getD (fieldNames t) i []) r ⌝ }
+{
+    if t.fields() <= i {
+        return Name {
+            text: [0, 0, 0],
+            len: 0,
+        };
+    }
+    let text = FIELD_NAMES[t.first_field() + i];
+    if i < 2 {
+        return Name { text, len: 3 };
+    }
+    Name { text, len: 2 }
+}
