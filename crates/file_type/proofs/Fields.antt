@@ -1,22 +1,26 @@
 -- Laws of the names of words and bits in T, C and R.
 use Prim.Native.Nat.{ℕ, suc, _+_, _-_, _≤_, _<_}
-use mathlib.Core.Path.{_≡_, refl, ap, ap₂, sym, _∙_}
+use mathlib.Core.Path.{_≡_, refl, ap, ap₂, sym, subst, _∙_}
 use mathlib.Core.List.{List, [], _∷_, _++_, map}
 use mathlib.Core.Option.{Option, none, some}
 use mathlib.Core.Bool.{Bool, true, false, cond}
 use native.Mathlib.Nat.{zero-add}
+use native.Mathlib.Numerals.{add-one}
 use native.Mathlib.Omega.{arith}
 use borrow.Author.Tests.{eqb-true, lt-ltb, le-ltb}
 use lib.Dec.{eqb, ltb, lit≤}
-use lib.ListN.{length, getD, drop, List·getD-append, List·getD-map, List·getD-eq-default}
-use lib.Seq.{getD-append-add, getD-drop}
+use lib.ListN.{length, getD, take, drop, replicate, length-take, length-drop, drop-of-length-le, List·getD-append, List·getD-map, List·getD-eq-default}
+use lib.Seq.{getD-append-add, getD-drop, getD-take, drop-cons, take-append-seam}
+use Rattle.base.specs.Chars.{spelled}
 use Rattle.base.proofs.Parts.{getD-within}
 use Rattle.base.proofs.Table.{everyBelow, at-place}
 use Rattle.file_type.specs.declared.FileType.{FileType}
 use Rattle.file_type.specs.declared.FileType.the-variants.{O, I, S, B, T, C, R, N, F, ST, A, L, MG, PD, PLS}
+use Rattle.file_type.specs.declared.Field.{Field}
+use Rattle.file_type.specs.declared.Field.the-variants as field
 use Rattle.file_type.specs.declared.Name.{Name}
 use Rattle.file_type.specs.Fields.{firstField}
-use Rattle.file_type.specs.Table.{named, Named, fieldNames}
+use Rattle.file_type.specs.Table.{named, Named, fieldNames, wordNames, bitNames, place, fieldAt, ofField}
 
 -- what holds of T, C and R, and of every type without names
 module _ (P : FileType → Type 0) (empty : (t : FileType) → fieldNames t ≡ [] → P t) (timer : P T) (counter : P C) (control : P R) where
@@ -85,8 +89,8 @@ nameOf x k = record { text = x; len = k }
 
 -- the answers of `field_name`
 module _ (t : FileType) (i : ℕ) where
-  pub no-field : (n : ℕ) → n ≡ length (fieldNames t) → n ≤ i → Named (getD (fieldNames t) i []) (named [])
-  no-field n e h = record { is = ap named (sym (List·getD-eq-default (fieldNames t) [] (omega arith))); fits = lit≤ tt }
+  pub no-field : (n : ℕ) {r : Name} → n ≡ length (fieldNames t) → n ≤ i → Named [] r → Named (getD (fieldNames t) i []) r
+  no-field n {r} e h w = subst (λ (s : List ℕ). Named s r) (sym (List·getD-eq-default (fieldNames t) [] (omega arith))) w
 
   name-of : (n : ℕ) → i < length (fieldNames t) → length (getD (fieldNames t) i []) ≡ n → n ≤ 3 → Named (getD (fieldNames t) i []) (record { text = getD texts (firstField t + i) []; len = n })
   name-of n h e g = record { is = ap₂ nameOf (there t i h) (sym e); fits = g }
@@ -100,3 +104,64 @@ module _ (t : FileType) (i : ℕ) where
 
     pub bit-field : 2 ≤ i → Named (getD (fieldNames t) i []) (record { text = getD texts (f + i) []; len = 2 })
     bit-field b = rw g (name-of 2 (omega arith) (letters t i (omega arith) ∙ rw (le-ltb i 2 b)) (lit≤ tt))
+
+-- ---- words and bits apart
+most : (t : FileType) → length (fieldNames t) ≤ 10
+most = byFields (λ (t : FileType). length (fieldNames t) ≤ 10) (λ t e. let z : length (fieldNames t) ≡ 0 = ap length e in omega arith) (lit≤ tt) (lit≤ tt) (lit≤ tt)
+
+module _ (t : FileType) (i : ℕ) {r : Name} where
+  pub no-word : 2 ≤ i → Named [] r → Named (getD (wordNames t) i []) r
+  no-word h w =
+      let n : length (take 2 (fieldNames t)) ≤ i = simp length-take (omega arith) in
+      subst (λ (s : List ℕ). Named s r) (sym (List·getD-eq-default (take 2 (fieldNames t)) [] n)) w
+
+  pub a-word : i < 2 → Named (getD (fieldNames t) i []) r → Named (getD (wordNames t) i []) r
+  a-word h w = subst (λ (s : List ℕ). Named s r) (sym (getD-take 2 (fieldNames t) i [] h)) w
+
+  pub no-bit : 8 ≤ i → Named [] r → Named (getD (bitNames t) i []) r
+  no-bit h w =
+      let n : length (drop 2 (fieldNames t)) ≤ i = simp length-drop (omega (arith, most t)) in
+      subst (λ (s : List ℕ). Named s r) (sym (List·getD-eq-default (drop 2 (fieldNames t)) [] n)) w
+
+  pub a-bit : Named (getD (fieldNames t) (i + 2) []) r → Named (getD (bitNames t) i []) r
+  a-bit w =
+      let n : i + 2 ≡ 2 + i = omega arith in
+      subst (λ (s : List ℕ). Named s r) (ap (λ (k : ℕ). getD (fieldNames t) k []) n ∙ sym (getD-drop 2 (fieldNames t) i [])) w
+
+-- the answers of `field_at`
+module _ (i : ℕ) where
+  pub at-word : i < 2 → field.Word i ≡ fieldAt (some i)
+  at-word h = rw (lt-ltb i 2 h)
+
+  pub at-bit : 2 ≤ i → field.Bit (i - 2) ≡ fieldAt (some i)
+  at-bit h = rw (le-ltb i 2 h)
+
+pub below-ten : (t : FileType) (n i : ℕ) → n ≡ length (fieldNames t) → i < n → i < 10
+below-ten t n i e h = omega (arith, most t)
+
+-- ---- a name in the search
+-- a name's bytes are the name
+pub name-bytes : {s : List ℕ} {r : Name} → Named s r → take (r .len) (r .text) ≡ s
+name-bytes {s} w = ap (λ (n : Name). take (n .len) (n .text)) (w .is) ∙ take-append-seam s (replicate (3 - length s) 0)
+
+module _ (t : FileType) (s : List ℕ) (i : ℕ) (inv : place i (drop i (fieldNames t)) s ≡ place 0 (fieldNames t) s) where
+  pub found-none : (n : ℕ) → n ≡ length (fieldNames t) → n ≤ i → field.Unknown ≡ ofField t s
+  unfolding ofField place
+  found-none n e h = ap fieldAt (sym (ap (λ (l : List (List ℕ)). place i l s) (drop-of-length-le (fieldNames t) past)) ∙ inv)
+    where
+      past : length (fieldNames t) ≤ i
+      past = omega arith
+
+  module _ (n : ℕ) {r : Name} (b : Bool) (e : n ≡ length (fieldNames t)) (h : i < n) (w : Named (getD (fieldNames t) i []) r) (g : b ≡ spelled true (take (r .len) (r .text)) s) where
+    step : place i (drop i (fieldNames t)) s ≡ cond b (some i) (place (i + 1) (drop (i + 1) (fieldNames t)) s)
+    unfolding place
+    step =
+        ap (λ (l : List (List ℕ)). place i l s) (drop-cons (fieldNames t) i [] (omega arith))
+        ∙ rw add-one (ap (λ (x : Bool). cond x (some i) (place (suc i) (drop (suc i) (fieldNames t)) s)) (ap (λ (x : List ℕ). spelled true x s) (sym (name-bytes w)) ∙ sym g))
+
+    pub found : {f : Field} → b ≡ true → f ≡ fieldAt (some i) → f ≡ ofField t s
+    unfolding ofField
+    found x f = f ∙ ap fieldAt (sym (step ∙ ap (λ (y : Bool). cond y (some i) (place (i + 1) (drop (i + 1) (fieldNames t)) s)) x) ∙ inv)
+
+    pub not-found : b ≡ false → place (i + 1) (drop (i + 1) (fieldNames t)) s ≡ place 0 (fieldNames t) s
+    not-found x = sym (step ∙ ap (λ (y : Bool). cond y (some i) (place (i + 1) (drop (i + 1) (fieldNames t)) s)) x) ∙ inv

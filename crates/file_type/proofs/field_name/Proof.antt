@@ -16,6 +16,7 @@ field-name-spec =
     tie.close
     (tie.spec
     (λ c κs. search needs)
+    (λ c κs. search needs)
     (λ c. search (no-field, needs))
     (λ c κs. search needs)
     (λ c. omega (arith, at c))
