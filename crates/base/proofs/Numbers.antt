@@ -6,7 +6,7 @@ use native.Mathlib.Nat.{zero-add, div-lt-iff-lt-mul, pow-suc, div-add-mod', mul-
 use native.Mathlib.Numerals.{add-one}
 use native.Mathlib.Omega.{arith}
 use lib.Dec.{lit≤}
-use lib.ListN.{length, take, drop, getD, length-drop, drop-of-length-le}
+use lib.ListN.{length, take, drop, getD, replicate, length-drop, drop-of-length-le}
 use lib.Seq.{drop-cons, drop-drop, take-add, take-all, take-nil, length-take-le}
 use Rattle.base.specs.Numbers.{lowFirst, number}
 
@@ -79,3 +79,9 @@ module _ (s : List ℕ) (at : ℕ) where
       let n : length (drop at s) ≤ 2 = simp length-drop (omega arith) in
       let m : length (drop at s) ≤ 4 = omega arith in
       e ∙ ap number (take-all 2 (drop at s) n ∙ sym (take-all 4 (drop at s) m))
+
+-- the bytes of 0
+pub low-zero : (k : ℕ) → lowFirst k 0 ≡ replicate k 0
+unfolding lowFirst
+low-zero zero = refl
+low-zero (suc k) = ap (λ (l : List ℕ). 0 ∷ l) (low-zero k)

@@ -1,10 +1,11 @@
 -- Parts of lists, in the code's words (`i + 1`, where the library has `suc i`).
-use Prim.Native.Nat.{ℕ, zero, suc, _+_, _<_}
-use mathlib.Core.Path.{_≡_, refl}
+use Prim.Native.Nat.{ℕ, zero, suc, _+_, _-_, _≤_, _<_}
+use mathlib.Core.Path.{_≡_, refl, ap, sym}
 use mathlib.Core.List.{List, [], _∷_}
-use native.Mathlib.Nat.{le-of-suc-le-suc, not-suc-le-zero}
+use native.Mathlib.Nat.{le-of-suc-le-suc, not-suc-le-zero, sub-zero}
 use native.Mathlib.Numerals.{add-one}
-use lib.ListN.{length, drop, getD}
+use native.Mathlib.Omega.{arith}
+use lib.ListN.{length, drop, getD, replicate, List·getD-eq-default}
 use lib.Seq.{drop-cons}
 
 pub drop-next : (s : List ℕ) (i : ℕ) → i < length s → drop i s ≡ getD s i 0 ∷ drop (i + 1) s
@@ -15,3 +16,11 @@ pub getD-within : {A : Type 0} (l : List A) (i : ℕ) (d e : A) → i < length l
 getD-within [] i d e h = absurd (not-suc-le-zero h)
 getD-within (x ∷ l) zero d e h = refl
 getD-within (x ∷ l) (suc i) d e h = getD-within l i d e (le-of-suc-le-suc h)
+
+pub getD-past : {A : Type 0} (l : List A) (i : ℕ) (d : A) → length l ≤ i → d ≡ getD l i d
+getD-past l i d h = sym (List·getD-eq-default l d h)
+
+pub drop-replicate : {A : Type 0} (i n : ℕ) (a : A) → drop i (replicate n a) ≡ replicate (n - i) a
+drop-replicate zero n a = ap (λ (k : ℕ). replicate k a) (sym (sub-zero n))
+drop-replicate (suc i) zero a = let e : zero - suc i ≡ 0 = omega arith in rw e
+drop-replicate (suc i) (suc n) a = let e : suc n - suc i ≡ n - i = omega arith in rw e (drop-replicate i n a)

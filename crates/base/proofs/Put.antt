@@ -2,8 +2,8 @@
 use Prim.Native.Nat.{ℕ, suc, _+_, _-_, _≤_, _<_}
 use mathlib.Core.Bool.{Bool, true, false}
 use mathlib.Core.Path.{_≡_, refl, ap, sym, _∙_}
-use mathlib.Core.List.{List, [], _∷_, _++_, append-assoc}
-use native.Mathlib.Nat.{add-zero, add-assoc}
+use mathlib.Core.List.{List, [], _∷_, _++_, append-assoc, append-nil}
+use native.Mathlib.Nat.{add-zero, add-assoc, zero-add}
 use native.Mathlib.Numerals.{add-one}
 use native.Mathlib.Omega.{arith}
 use lib.ListN.{length, take, drop, getD, set, length-append, length-drop, take-append-drop, drop-of-length-le}
@@ -83,3 +83,33 @@ module _ (l₀ l : List ℕ) (at i : ℕ) (whole : List ℕ) where
 
   pub lay-done : {next : List ℕ} → i ≡ length whole → next ≡ [] → put l (at + i) next ≡ put l₀ at whole → Wrote l₀ at whole (at + i) l
   lay-done {next} n g e = record { end = ap (λ (k : ℕ). at + k) n; now = sym (put-none l (at + i)) ∙ ap (put l (at + i)) (sym g) ∙ e }
+
+-- a whole memory laid over another, and a part over itself
+pub put-whole : (l bs : List ℕ) → length bs ≡ length l → put l 0 bs ≡ bs
+unfolding put
+put-whole l bs e = let h : length l ≤ 0 + length bs = omega arith in rw (drop-of-length-le l h, append-nil)
+
+pub put-same : (l : List ℕ) (at : ℕ) → at ≤ length l → put l at (drop at l) ≡ l
+unfolding put
+put-same l at h =
+    let n : length l ≤ at + length (drop at l) = simp length-drop (omega arith) in
+    rw (drop-of-length-le l n, append-nil, take-append-drop)
+
+-- two writings, the second right behind the first
+pub puts-both : {l m k : List ℕ} {r t : ℕ} {bs cs : List ℕ} (at : ℕ) → Puts l at bs r m → Puts m (at + length bs) cs t k → at + length (bs ++ cs) ≤ length l → k ≡ put l at (bs ++ cs)
+puts-both {l} {m} {k} {r} {t} {bs} {cs} at a b h =
+    let n : length (bs ++ cs) ≡ length bs + length cs = length-append bs cs in
+    let w : Wrote l at bs r m = a .room (omega arith) in
+    let e : length m ≡ length l = wrote-length w (omega arith) in
+    let v : Wrote m (at + length bs) cs t k = b .room (omega arith) in
+    v .now ∙ ap (λ (x : List ℕ). put x (at + length bs) cs) (w .now) ∙ put-more l at bs (omega arith) cs
+
+-- what lies in front of a place, and from there on, where bytes were laid from the start
+module _ (l bs : List ℕ) (n : ℕ) (e : length bs ≡ n) (h : n ≤ length l) where
+  pub put-first : take n (put l 0 bs) ≡ bs
+  unfolding put
+  put-first = take-at bs (drop (0 + length bs) l) n e
+
+  pub put-rest : drop n (put l 0 bs) ≡ drop n l
+  unfolding put
+  put-rest = drop-at bs (drop (0 + length bs) l) n e ∙ ap (λ (k : ℕ). drop k l) (zero-add (length bs) ∙ e)

@@ -1,0 +1,30 @@
+use mathlib.Core.Path.{sym}
+use Rattle.swap.proofs.Text.{cut-length, string-done}
+use borrow.Author.Needs.{needs}
+use Rattle.swap.proofs.encode_pccc_string.Statement.{statement}
+use Rattle.swap.proofs.encode_pccc_string.Tie as tie
+
+slice-aggregate-put-all-2 : tie.Need-slice-aggregate-put-all-2
+slice-aggregate-put-all-2 c = sym (cut-length _ _ (search needs))
+
+returns : tie.Need-returns
+returns c =
+    let a = c .before .before .before .before in
+    let n = a .before .before .before .before in
+    string-done _ _ (n .before .before .at-most-82 .ensures) (n .put-number .ensures) (a .put-all .ensures) _ (c .before .swap-pairs .ensures)
+
+pub encode-pccc-string-spec : {M : Type 1} → statement M
+encode-pccc-string-spec =
+    tie.close
+    (tie.spec
+    (λ c κs. search needs)
+    (λ c. search needs)
+    (λ c κs. search needs)
+    (λ c. search needs)
+    slice-aggregate-put-all-2
+    (λ c κs. search needs)
+    (λ c. search needs)
+    (λ c. search needs)
+    (λ c. search needs)
+    (λ c κs. search needs)
+    returns)
