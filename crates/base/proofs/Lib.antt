@@ -1,4 +1,5 @@
 pub mod Chars
+pub mod Masked
 pub mod Numbers
 pub mod Parts
 pub mod Put

@@ -1,3 +1,5 @@
 pub mod Chars
+pub mod Masked
 pub mod Numbers
+pub mod Outcome
 pub mod Put

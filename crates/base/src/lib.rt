@@ -4,6 +4,7 @@ ghost use mathlib.Core.Path.{_≡_};
 ghost use Prim.Native.Nat.{_+_, _≤_, _<_};
 ghost use lib.ListN.{length, take, drop};
 ghost use Rattle.base.specs.Chars.{letter as Chars·letter, spelled};
+ghost use Rattle.base.specs.Masked.{mix, bitMask};
 ghost use Rattle.base.specs.Numbers.{lowFirst, number};
 ghost use Rattle.base.specs.Put.{Wrote, Puts};
 
@@ -124,4 +125,21 @@ pub fn spells(s: &[u8], name: &[u8], any_case: bool) -> bool
         i += 1;
     }
     true
+}
+
+// A word under a mask: the mask's bits from the value, the others from the old word.
+pub fn mixed(mask: u16, old: u16, value: u16) -> u16
+    ensures { λ r. ⌜ r ≡ mix 0xFFFF mask old value ⌝ }
+{
+    (old & !mask) | (value & mask)
+}
+
+// The mask of a bit; 0 where a word has no such bit.
+pub fn bit_mask(b: u8) -> u16
+    ensures { λ r. ⌜ r ≡ bitMask b ⌝ }
+{
+    if b < 16 {
+        return 1u16 << b;
+    }
+    0
 }

@@ -7,7 +7,7 @@ use mathlib.Core.Bool.{Bool, true, false, cond}
 use native.Mathlib.Nat.{zero-add}
 use native.Mathlib.Numerals.{add-one}
 use native.Mathlib.Omega.{arith}
-use borrow.Author.Tests.{eqb-true, lt-ltb, le-ltb}
+use borrow.Author.Tests.{eqb-true, ltb-true, lt-ltb, le-ltb}
 use lib.Dec.{eqb, ltb, lit≤}
 use lib.ListN.{length, getD, take, drop, replicate, length-take, length-drop, drop-of-length-le, List·getD-append, List·getD-map, List·getD-eq-default}
 use lib.Seq.{getD-append-add, getD-drop, getD-take, drop-cons, take-append-seam}
@@ -19,7 +19,7 @@ use Rattle.file_type.specs.declared.FileType.the-variants.{O, I, S, B, T
 use Rattle.file_type.specs.declared.Field.{Field}
 use Rattle.file_type.specs.declared.Field.the-variants as field
 use Rattle.file_type.specs.declared.Name.{Name}
-use Rattle.file_type.specs.Fields.{firstField}
+use Rattle.file_type.specs.Fields.{firstField, Placed}
 use Rattle.file_type.specs.Table.{named, Named, fieldNames, wordNames, bitNames, place, fieldAt, ofField}
 
 -- what holds of T, C and R, and of every type without names
@@ -165,3 +165,25 @@ module _ (t : FileType) (s : List ℕ) (i : ℕ) (inv : place i (drop i (fieldNa
 
     pub not-found : b ≡ false → place (i + 1) (drop (i + 1) (fieldNames t)) s ≡ place 0 (fieldNames t) s
     not-found x = sym (step ∙ ap (λ (y : Bool). cond y (some i) (place (i + 1) (drop (i + 1) (fieldNames t)) s)) x) ∙ inv
+
+-- a name's place is one of the list's, so a field lies within its element
+place-within : (k : ℕ) (ns : List (List ℕ)) (s : List ℕ) (i : ℕ) → place k ns s ≡ some i → i < k + length ns
+unfolding place
+place-within k [] s i e = let z : _≡_ {A = ℕ} 0 1 = cc in absurd (omega arith)
+place-within k (n ∷ ns) s i e = go (spelled true n s) (place-within (suc k) ns s i) e
+  where
+    go : (t : Bool) → (place (suc k) ns s ≡ some i → i < suc k + length ns) → cond t (some k) (place (suc k) ns s) ≡ some i → i < k + suc (length ns)
+    go true h g = let x : k ≡ i = cc in omega arith
+    go false h g = omega (arith, h g)
+
+placed-at : (o : Option ℕ) → ((i : ℕ) → o ≡ some i → i < 10) → Placed (fieldAt o)
+placed-at none h = record { word = λ i e. let z : _≡_ {A = ℕ} 0 1 = cc in absurd (omega arith); bit = λ i e. let z : _≡_ {A = ℕ} 0 1 = cc in absurd (omega arith) }
+placed-at (some k) h = go (ltb k 2) refl
+  where
+    go : (t : Bool) → ltb k 2 ≡ t → Placed (cond t (field.Word k) (field.Bit (k - 2)))
+    go true e = record { word = λ i g. let x : k ≡ i = cc in omega (arith, ltb-true k 2 e); bit = λ i g. let z : _≡_ {A = ℕ} 0 1 = cc in absurd (omega arith) }
+    go false e = record { word = λ i g. let z : _≡_ {A = ℕ} 0 1 = cc in absurd (omega arith); bit = λ i g. let x : k - 2 ≡ i = cc in omega (arith, h k refl) }
+
+pub placed : (t : FileType) (s : List ℕ) → Placed (ofField t s)
+unfolding ofField
+placed t s = placed-at (place 0 (fieldNames t) s) (λ i e. omega (arith, place-within 0 (fieldNames t) s i e, most t))

@@ -1,5 +1,8 @@
--- Where the code keeps the names of a type's fields.
-use Prim.Native.Nat.{ℕ}
+-- Where the code keeps the names of a type's fields, and where a field may lie.
+use Prim.Native.Nat.{ℕ, _<_}
+use mathlib.Core.Path.{_≡_}
+use Rattle.file_type.specs.declared.Field.{Field}
+use Rattle.file_type.specs.declared.Field.the-variants as field
 use Rattle.file_type.specs.declared.FileType.{FileType}
 use Rattle.file_type.specs.declared.FileType.the-variants.{O, I, S, B, T, C, R, N, F, ST, A, L, MG, PD, PLS}
 
@@ -19,3 +22,8 @@ firstField L = 0
 firstField MG = 0
 firstField PD = 0
 firstField PLS = 0
+
+-- a field lies within its element: a word is 0 or 1, a bit 0 to 7
+pub record Placed (f : Field) : Type 0 where
+  pub word : (i : ℕ) → f ≡ field.Word i → i < 2
+  pub bit : (i : ℕ) → f ≡ field.Bit i → i < 8

@@ -26,6 +26,19 @@ ascii-is (x ∷ y ∷ s) a b e f =
     let n : 2 - suc (suc (length s)) ≡ 0 = omega arith in
     rw n (ap₂ (λ (x y : ℕ). x ∷ y ∷ []) e f)
 
+-- ---- lengths
+fitted-length : (n fill : ℕ) (s : List ℕ) → length (fitted n fill s) ≡ n
+unfolding fitted
+fitted-length n fill s = rw (length-append, length-take, length-replicate) (omega arith)
+
+pub ascii-length : (s : List ℕ) → length (asciiText s) ≡ 2
+unfolding asciiText
+ascii-length s = swap-length (fitted 2 0x20 s) ∙ fitted-length 2 0x20 s
+
+pub string-length : (s : List ℕ) → length (stringText s) ≡ 84
+unfolding stringText
+string-length s = rw (length-append, low-length 2 (length (take 82 s)), swap-length (fitted 82 0 s), fitted-length 82 0 s)
+
 -- ---- `slc_string_swap`
 pub padded-length : (s : List ℕ) → length (paddedSwap s) ≡ length s + length s % 2
 unfolding paddedSwap
@@ -86,18 +99,14 @@ module _ (s : List ℕ) (n : ℕ) (e : n ≡ min 82 (length s)) where
         ∙ append-assoc (lowFirst 2 n) (take n s) (drop (2 + n) (replicate 84 0))
         ∙ ap (λ (x : List ℕ). lowFirst 2 n ++ x) text
 
-    fitted-length : length (fitted 82 0 s) ≡ 82
-    unfolding fitted
-    fitted-length = rw (length-append, length-take, length-replicate) (omega arith)
-
     pub string-done : (part : List ℕ) → part ≡ swapPairs (take 82 (drop 2 l₂)) → take 2 l₂ ++ (part ++ drop 82 (drop 2 l₂)) ≡ stringText s
     unfolding stringText
     string-done part g =
         let f : take 2 l₂ ≡ lowFirst 2 n = ap (take 2) laid ∙ take-at (lowFirst 2 n) (fitted 82 0 s) 2 (low-length 2 n) in
         let d : drop 2 l₂ ≡ fitted 82 0 s = ap (drop 2) laid ∙ drop-at (lowFirst 2 n) (fitted 82 0 s) 2 (low-length 2 n) in
         let m : length (take 82 s) ≡ n = ap length (sym cut) ∙ cut-length in
-        let t : take 82 (fitted 82 0 s) ≡ fitted 82 0 s = take-all 82 (fitted 82 0 s) (omega (arith, fitted-length)) in
-        let w : length (fitted 82 0 s) ≤ 82 = omega (arith, fitted-length) in
+        let t : take 82 (fitted 82 0 s) ≡ fitted 82 0 s = take-all 82 (fitted 82 0 s) (omega (arith, fitted-length 82 0 s)) in
+        let w : length (fitted 82 0 s) ≤ 82 = omega (arith, fitted-length 82 0 s) in
         let z : drop 82 (fitted 82 0 s) ≡ [] = drop-of-length-le (fitted 82 0 s) w in
         let p : part ≡ swapPairs (fitted 82 0 s) = g ∙ ap swapPairs (ap (take 82) d ∙ t) in
         rw (f, d, z, p, m, append-nil)
