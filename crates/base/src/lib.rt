@@ -1,7 +1,7 @@
 // What all crates share: bytes and numbers laid over lent memory, and numbers read from it.
 // A writer that finds no room changes nothing and answers the place that it was given.
 ghost use mathlib.Core.Path.{_≡_};
-ghost use Prim.Native.Nat.{_+_, _≤_, _<_};
+ghost use Prim.Native.Nat.{_+_, _≤_, _<_, min};
 ghost use lib.ListN.{length, take, drop};
 ghost use Rattle.base.specs.Chars.{letter as Chars·letter, spelled};
 ghost use Rattle.base.specs.Masked.{mix, bitMask};
@@ -142,4 +142,13 @@ pub fn bit_mask(b: u8) -> u16
         return 1u16 << b;
     }
     0
+}
+
+pub fn least(a: usize, b: usize) -> usize
+    ensures { λ r. ⌜ r ≡ min a b ⌝ }
+{
+    if a < b {
+        return a;
+    }
+    b
 }

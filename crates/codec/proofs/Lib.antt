@@ -1,3 +1,4 @@
 pub mod ByKind
+pub mod Reading
 pub mod Setting
 pub mod Signed

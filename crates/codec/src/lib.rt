@@ -1,4 +1,5 @@
 // Element codecs: values of the twelve file types to and from the bytes of one element.
+mod get;
 mod kind;
 mod set;
 mod whole;
@@ -49,5 +50,24 @@ pub fn encode_element(t: FileType, v: Value, text: &[u8], element: &mut [u8]) ->
         Kind::Line => set::line(v, text, element),
         Kind::Fields => set::fields(t, v, text, element),
         Kind::Other => Stored::Refused(20),
+    }
+}
+
+// Reads an element; text is written to the lent memory, which needs 82 bytes for it. A refusal changes nothing.
+pub fn decode_element(t: FileType, element: &[u8], text: &mut [u8]) -> Element
+    ensures { λ r. ⌜ Reads (decoded t (now (element .entry)) (length (now (text .entry)))) (now (text .entry)) r (now (text .exit)) ⌝ }
+{
+    if element.len() < t.element_size() {
+        return Element::Refused(19);
+    }
+    let k = kind::kind_of(t);
+    match k {
+        Kind::Word => get::word(element),
+        Kind::Long => get::long(element),
+        Kind::Float => get::float(element),
+        Kind::Ascii => get::ascii(element, text),
+        Kind::Line => get::line(element, text),
+        Kind::Fields => get::fields(t, element),
+        Kind::Other => Element::Refused(20),
     }
 }

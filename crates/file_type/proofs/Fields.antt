@@ -109,6 +109,9 @@ module _ (t : FileType) (i : ℕ) where
 most : (t : FileType) → length (fieldNames t) ≤ 10
 most = byFields (λ (t : FileType). length (fieldNames t) ≤ 10) (λ t e. let z : length (fieldNames t) ≡ 0 = ap length e in omega arith) (lit≤ tt) (lit≤ tt) (lit≤ tt)
 
+pub bits-most : (t : FileType) → length (bitNames t) ≤ 8
+bits-most t = simp length-drop (omega (arith, most t))
+
 module _ (t : FileType) (i : ℕ) {r : Name} where
   pub no-word : 2 ≤ i → Named [] r → Named (getD (wordNames t) i []) r
   no-word h w =
@@ -120,7 +123,7 @@ module _ (t : FileType) (i : ℕ) {r : Name} where
 
   pub no-bit : 8 ≤ i → Named [] r → Named (getD (bitNames t) i []) r
   no-bit h w =
-      let n : length (drop 2 (fieldNames t)) ≤ i = simp length-drop (omega (arith, most t)) in
+      let n : length (drop 2 (fieldNames t)) ≤ i = omega (arith, bits-most t) in
       subst (λ (s : List ℕ). Named s r) (sym (List·getD-eq-default (drop 2 (fieldNames t)) [] n)) w
 
   pub a-bit : Named (getD (fieldNames t) (i + 2) []) r → Named (getD (bitNames t) i []) r

@@ -1,6 +1,5 @@
 // Byte pairs swapped, and the text of A and ST elements: an SLC stores two characters to a word, the first in the high byte.
 ghost use mathlib.Core.Path.{_≡_};
-ghost use Prim.Native.Nat.{min};
 ghost use lib.ListN.{getD};
 ghost use Rattle.swap.specs.Text.{swapPairs, paddedSwap, asciiText, stringText, writtenOf, outOf};
 
@@ -59,18 +58,9 @@ pub fn encode_pccc_string(text: &[u8]) -> [u8; 84]
     ensures { λ r. ⌜ r ≡ stringText (now (text .entry)) ⌝ }
 {
     let mut out = [0u8; 84];
-    let n = at_most_82(text.len());
+    let n = base::least(82, text.len());
     base::put_number(&mut out, 0, 2, n as u64);
     base::put_all(&mut out, 2, &text[..n]);
     swap_pairs(&mut out[2..]);
     out
-}
-
-fn at_most_82(n: usize) -> usize
-    ensures { λ r. ⌜ r ≡ min 82 n ⌝ }
-{
-    if n < 82 {
-        return n;
-    }
-    82
 }

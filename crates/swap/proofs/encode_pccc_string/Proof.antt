@@ -11,7 +11,7 @@ returns : tie.Need-returns
 returns c =
     let a = c .before .before .before .before in
     let n = a .before .before .before .before in
-    string-done _ _ (n .before .before .at-most-82 .ensures) (n .put-number .ensures) (a .put-all .ensures) _ (c .before .swap-pairs .ensures)
+    string-done _ _ (n .before .before .least .ensures) (n .put-number .ensures) (a .put-all .ensures) _ (c .before .swap-pairs .ensures)
 
 pub encode-pccc-string-spec : {M : Type 1} → statement M
 encode-pccc-string-spec =
