@@ -1,4 +1,0 @@
-pub mod ByKind
-pub mod Reading
-pub mod Setting
-pub mod Signed
