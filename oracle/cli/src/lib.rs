@@ -1,0 +1,6 @@
+//! The oracle's parts: the line protocol, the answers of the Rust original, and the generator of lines.
+pub mod answer;
+pub mod areas;
+pub mod hex;
+pub mod protocol;
+pub mod rng;
