@@ -37,7 +37,7 @@ ascii-length s = swap-length (fitted 2 0x20 s) ∙ fitted-length 2 0x20 s
 
 pub string-length : (s : List ℕ) → length (stringText s) ≡ 84
 unfolding stringText
-string-length s = rw (length-append, low-length 2 (length (take 82 s)), swap-length (fitted 82 0 s), fitted-length 82 0 s)
+string-length s = simp (length-append, low-length, swap-length, fitted-length 82 0 s)
 
 -- ---- `slc_string_swap`
 pub padded-length : (s : List ℕ) → length (paddedSwap s) ≡ length s + length s % 2
