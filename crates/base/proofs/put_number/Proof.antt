@@ -5,15 +5,6 @@ use borrow.Author.Needs.{needs}
 use Rattle.base.proofs.put_number.Statement.{statement}
 use Rattle.base.proofs.put_number.Tie as tie
 
-returns : tie.Need-returns
-returns c = puts-full _ (low-length _ _) (omega arith)
-
-returns-2 : tie.Need-returns-2
-returns-2 c = puts-full _ (low-length _ _) (omega arith)
-
-returns-3 : tie.Need-returns-3
-returns-3 c = puts-room _ (low-length _ _) (omega arith) (search needs)
-
 pub put-number-spec : {M : Type 1} → statement M
 put-number-spec =
-    tie.close (tie.spec returns (λ c. search needs) returns-2 (λ c κs. search needs) (λ c. search needs) returns-3)
+    tie.close (tie.spec (λ c. puts-full _ (low-length _ _) (omega arith)) (λ c. search needs) (λ c. puts-full _ (low-length _ _) (omega arith)) (λ c κs. search needs) (λ c. search needs) (λ c. puts-room _ (low-length _ _) (omega arith) (search needs)))

@@ -15,22 +15,10 @@ Inv-loop s name any-case i₀ i =
 abbrev μ-loop : tie.MeasureT-loop
 μ-loop s name any-case i₀ i = length name - i
 
-returns : tie.Need-returns Inv-loop μ-loop
-returns c = search (spelled-short, needs)
-
-loop-holds : tie.Need-loop-holds Inv-loop μ-loop
-loop-holds c = refl
-
-returns-2 : tie.Need-returns-2 Inv-loop μ-loop
-returns-2 c = search (spelled-off, needs)
-
 loop-again : tie.Need-loop-again Inv-loop μ-loop
 loop-again c =
     let l = c .before .before .before .before .before in
     spelled-on _ _ _ _ (l .before .if1 .left) (l .loop .inv) _ (c .before .before .before .before .loop-test .taken) (c .before .before .letter .ensures) (c .if2 .left)
-
-returns-3 : tie.Need-returns-3 Inv-loop μ-loop
-returns-3 c = search (spelled-end, needs)
 
 pub spells-spec : {M : Type 1} → statement M
 spells-spec =
@@ -38,13 +26,13 @@ spells-spec =
     (tie.spec
     Inv-loop
     μ-loop
-    returns
-    loop-holds
+    (λ c. search (spelled-short, needs))
+    (λ c. refl)
     (λ c. search needs)
     (λ c κs. search needs)
     (λ c. search needs)
-    returns-2
+    (λ c. search (spelled-off, needs))
     (λ c. search needs)
     (λ c. search needs)
     loop-again
-    returns-3)
+    (λ c. search (spelled-end, needs)))

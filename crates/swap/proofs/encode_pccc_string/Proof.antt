@@ -4,9 +4,6 @@ use borrow.Author.Needs.{needs}
 use Rattle.swap.proofs.encode_pccc_string.Statement.{statement}
 use Rattle.swap.proofs.encode_pccc_string.Tie as tie
 
-slice-aggregate-put-all-2 : tie.Need-slice-aggregate-put-all-2
-slice-aggregate-put-all-2 c = sym (cut-length _ _ (search needs))
-
 returns : tie.Need-returns
 returns c =
     let a = c .before .before .before .before in
@@ -21,7 +18,7 @@ encode-pccc-string-spec =
     (λ c. search needs)
     (λ c κs. search needs)
     (λ c. search needs)
-    slice-aggregate-put-all-2
+    (λ c. sym (cut-length _ _ (search needs)))
     (λ c κs. search needs)
     (λ c. search needs)
     (λ c. search needs)

@@ -6,9 +6,6 @@ use borrow.Author.Needs.{needs}
 use Rattle.swap.proofs.slc_string_swap.Statement.{statement}
 use Rattle.swap.proofs.slc_string_swap.Tie as tie
 
-returns : tie.Need-returns
-returns c = search (no-room, needs)
-
 slice-aggregate-swap-pairs : tie.Need-slice-aggregate-swap-pairs
 slice-aggregate-swap-pairs c =
     let k = c .before .before .before in
@@ -26,7 +23,7 @@ slc-string-swap-spec =
     tie.close
     (tie.spec
     (λ c. search needs)
-    returns
+    (λ c. search (no-room, needs))
     (λ c κs. search needs)
     (λ c κs. search needs)
     (λ c. search needs)

@@ -16,20 +16,8 @@ Inv-loop bytes₀ i₀ bytes i =
 abbrev μ-loop : tie.MeasureT-loop
 μ-loop bytes₀ i₀ bytes i = length bytes - i
 
-loop-holds : tie.Need-loop-holds Inv-loop μ-loop
-loop-holds c = (omega arith, refl, swap-start _)
-
-slice-write-bytes-2 : tie.Need-slice-write-bytes-2 Inv-loop μ-loop
-slice-write-bytes-2 c = simp length-set (omega arith)
-
-loop-less : tie.Need-loop-less Inv-loop μ-loop
-loop-less c = simp length-set (omega arith)
-
 loop-again : tie.Need-loop-again Inv-loop μ-loop
 loop-again c = (simp length-set (omega arith), simp length-set (omega arith), search (swap-turn, needs))
-
-returns : tie.Need-returns Inv-loop μ-loop
-returns c = search (swap-end, needs)
 
 pub swap-pairs-spec : {M : Type 1} → statement M
 swap-pairs-spec =
@@ -37,16 +25,16 @@ swap-pairs-spec =
     (tie.spec
     Inv-loop
     μ-loop
-    loop-holds
+    (λ c. (omega arith, refl, swap-start _))
     (λ c. search needs)
     (λ c. search needs)
     (λ c. search needs)
     (λ c. search needs)
     (λ c. search needs)
     (λ c. search needs)
-    slice-write-bytes-2
+    (λ c. simp length-set (omega arith))
     (λ c. search needs)
-    loop-less
+    (λ c. simp length-set (omega arith))
     loop-again
     (λ c. search needs)
-    returns)
+    (λ c. search (swap-end, needs)))

@@ -5,49 +5,17 @@ use borrow.Author.Needs.{needs}
 use Rattle.encode.proofs.set.put_field.Statement.{statement}
 use Rattle.encode.proofs.set.put_field.Tie as tie
 
--- src/set.rt:185:27
-
--- src/set.rt:186:21
-
--- src/set.rt:186:80
-
--- src/set.rt:186:75
-
--- src/set.rt:186:71
-
--- src/set.rt:186:27
 put-whole-requires : tie.Need-put-whole-requires
 put-whole-requires c κs =
     let p = c .before .before .before .before .before .pre .1 in
     let f = c .before .before .f .given in
     (lit≤ tt, omega (arith, p .word (f .0 .0) (f .1)))
 
--- src/set.rt:187:20
-
--- src/set.rt:187:34
 sub-put-bit : tie.Need-sub-put-bit
 sub-put-bit c =
     let p = c .before .before .before .before .pre .1 in
     let f = c .before .f2 .given in
     omega (arith, p .bit (f .0 .0) (f .1))
-
--- src/set.rt:187:42
-
--- src/set.rt:187:26
-
--- src/set.rt:180:1
-
--- src/set.rt:180:1
-
--- src/set.rt:180:1
-returns-2 : tie.Need-returns-2
-returns-2 c = search (field-word, needs)
-
--- src/set.rt:180:1
-
--- src/set.rt:180:1
-returns-3 : tie.Need-returns-3
-returns-3 c = search (field-bit, needs)
 
 pub put-field-spec : {M : Type 1} → statement M
 put-field-spec =
@@ -65,6 +33,6 @@ put-field-spec =
     (λ c κs. search needs)
     (λ c. search needs)
     (λ c. search needs)
-    returns-2
+    (λ c. search (field-word, needs))
     (λ c. search needs)
-    returns-3)
+    (λ c. search (field-bit, needs)))

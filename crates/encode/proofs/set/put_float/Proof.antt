@@ -3,13 +3,5 @@ use borrow.Author.Needs.{needs}
 use Rattle.encode.proofs.set.put_float.Statement.{statement}
 use Rattle.encode.proofs.set.put_float.Tie as tie
 
--- src/set.rt:80:5
-
--- src/set.rt:76:1
-
--- src/set.rt:76:1
-returns : tie.Need-returns
-returns c = search (float-stored, needs)
-
 pub put-float-spec : {M : Type 1} → statement M
-put-float-spec = tie.close (tie.spec (λ c κs. search needs) (λ c. search needs) returns)
+put-float-spec = tie.close (tie.spec (λ c κs. search needs) (λ c. search needs) (λ c. search (float-stored, needs)))

@@ -3,12 +3,6 @@ use borrow.Author.Needs.{needs}
 use Rattle.file_type.proofs.FileType.bit_name.Statement.{statement}
 use Rattle.file_type.proofs.FileType.bit_name.Tie as tie
 
-returns : tie.Need-returns
-returns c = search (no-bit, needs)
-
-returns-2 : tie.Need-returns-2
-returns-2 c = search (a-bit, needs)
-
 pub bit-name-spec : {M : Type 1} → statement M
 bit-name-spec =
-    tie.close (tie.spec (λ c κs. search needs) returns (λ c. search needs) (λ c κs. search needs) returns-2)
+    tie.close (tie.spec (λ c κs. search needs) (λ c. search (no-bit, needs)) (λ c. search needs) (λ c κs. search needs) (λ c. search (a-bit, needs)))

@@ -14,21 +14,6 @@ Inv-loop self name n i₀ i =
 abbrev μ-loop : tie.MeasureT-loop
 μ-loop self name n i₀ i = n - i
 
-loop-holds : tie.Need-loop-holds Inv-loop μ-loop
-loop-holds c = (search needs, refl)
-
-field-at-requires : tie.Need-field-at-requires Inv-loop μ-loop
-field-at-requires c κs = search (below-ten, needs)
-
-returns : tie.Need-returns Inv-loop μ-loop
-returns c = search (found, needs)
-
-loop-again : tie.Need-loop-again Inv-loop μ-loop
-loop-again c = search (not-found, needs)
-
-returns-2 : tie.Need-returns-2 Inv-loop μ-loop
-returns-2 c = search (found-none, needs)
-
 pub field-spec : {M : Type 1} → statement M
 field-spec =
     tie.close
@@ -36,12 +21,12 @@ field-spec =
     Inv-loop
     μ-loop
     (λ c κs. search needs)
-    loop-holds
+    (λ c. (search needs, refl))
     (λ c κs. search needs)
     (λ c κs. search needs)
-    field-at-requires
-    returns
+    (λ c κs. search (below-ten, needs))
+    (λ c. search (found, needs))
     (λ c. search needs)
     (λ c. search needs)
-    loop-again
-    returns-2)
+    (λ c. search (not-found, needs))
+    (λ c. search (found-none, needs)))

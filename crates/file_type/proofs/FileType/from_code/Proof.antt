@@ -3,9 +3,6 @@ use Rattle.file_type.proofs.Table.{has-code, no-code}
 use Rattle.file_type.proofs.FileType.from_code.Statement.{statement}
 use Rattle.file_type.proofs.FileType.from_code.Tie as tie
 
-unknown : tie.Need-returns-16
-unknown c = no-code _ (c .match .rest)
-
 pub from-code-spec : {M : Type 1} → statement M
 from-code-spec =
     tie.close
@@ -25,4 +22,4 @@ from-code-spec =
     (λ c. search (has-code, needs))
     (λ c. search (has-code, needs))
     (λ c. search (has-code, needs))
-    unknown)
+    (λ c. no-code _ (c .match .rest)))

@@ -13,30 +13,18 @@ Inv-loop name i₀ i = (i ≤ 15) × (first (spelledBy name) (drop i all) ≡ of
 abbrev μ-loop : tie.MeasureT-loop
 μ-loop name i₀ i = 15 - i
 
-loop-holds : tie.Need-loop-holds Inv-loop μ-loop
-loop-holds c = search (any-known, needs)
-
-returns : tie.Need-returns Inv-loop μ-loop
-returns c = search (is-known, needs)
-
-loop-again : tie.Need-loop-again Inv-loop μ-loop
-loop-again c = (search needs, search (not-known, needs))
-
-returns-2 : tie.Need-returns-2 Inv-loop μ-loop
-returns-2 c = search (none-known, needs)
-
 pub from-name-spec : {M : Type 1} → statement M
 from-name-spec =
     tie.close
     (tie.spec
     Inv-loop
     μ-loop
-    loop-holds
+    (λ c. search (any-known, needs))
     (λ c. search needs)
     (λ c κs. search needs)
     (λ c κs. search needs)
-    returns
+    (λ c. search (is-known, needs))
     (λ c. search needs)
     (λ c. search needs)
-    loop-again
-    returns-2)
+    (λ c. (search needs, search (not-known, needs)))
+    (λ c. search (none-known, needs)))
