@@ -1,0 +1,4 @@
+pub mod Back
+pub mod Decimals
+pub mod Rows
+pub mod Signs

@@ -1,0 +1,16 @@
+use borrow.Author.Needs.{needs}
+use Rattle.say.proofs.Saying.{said-error}
+use Rattle.say.proofs.answers.error.Statement.{statement}
+use Rattle.say.proofs.answers.error.Tie as tie
+
+pub error-spec : {M : Type 1} → statement M
+error-spec =
+    tie.close
+    (tie.spec
+    (λ c. search needs)
+    (λ c κs. search needs)
+    (λ c κs. search needs)
+    (λ c. search needs)
+    (λ c κs. search needs)
+    (λ c. search needs)
+    (λ c. search (said-error, needs)))

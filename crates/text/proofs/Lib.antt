@@ -1,0 +1,5 @@
+pub mod Back
+pub mod Exact
+pub mod Pairs
+pub mod Rows
+pub mod Splits
