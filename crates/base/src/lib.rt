@@ -95,7 +95,7 @@ pub fn long_at(s: &[u8], at: usize) -> u32
 }
 
 // A byte as it is compared: where any case counts, a small letter is its capital one.
-fn letter(b: u8, any_case: bool) -> u8
+pub fn letter(b: u8, any_case: bool) -> u8
     ensures { λ r. ⌜ r ≡ Chars·letter «any_case» b ⌝ }
 {
     if !any_case {

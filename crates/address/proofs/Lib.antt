@@ -1,0 +1,5 @@
+pub mod Forms
+pub mod Ranges
+pub mod Reading
+pub mod Rows
+pub mod Timers

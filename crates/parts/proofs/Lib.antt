@@ -1,0 +1,4 @@
+pub mod Held
+pub mod Numbers
+pub mod Reading
+pub mod Written
