@@ -8,6 +8,9 @@ use say::Told;
 // The answer to a line that is no comment. Each crate of calls adds an arm here.
 fn reply(line: &[u8], space: &mut [u8], more: &mut [u8], out: &mut [u8], p: Place) -> Place {
     let call = text::field(line, 0);
+    if let Told::Answered(q) = calls_address::answer(call, line, space, out, p) {
+        return q;
+    }
     if let Told::Answered(q) = calls_codec::answer(call, line, space, more, out, p) {
         return q;
     }

@@ -1,4 +1,5 @@
 //! What `generate` writes, by area. An area is a file here with a function `lines`, and a row of `AREAS`.
+mod address;
 mod codec;
 mod file_type;
 mod syntax;
@@ -18,6 +19,7 @@ struct Area {
 #[rustfmt::skip]
 const AREAS: &[Area] = &[
     Area { name: "file_type", calls: &["ft", "ftname", "simft"], lines: file_type::lines },
+    Area { name: "address", calls: &["tag"], lines: address::lines },
     Area { name: "codec", calls: &["swap", "pairs", "ascii", "string", "enc", "dec"], lines: codec::lines },
 ];
 
