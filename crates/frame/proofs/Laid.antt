@@ -41,7 +41,7 @@ module _ (n : ℕ) where
   unfolding addressField
   long h = rw (le-ltb _ _ h)
 
-  short-length : n < 255 → 1 ≡ length (addressField n)
+  pub short-length : n < 255 → 1 ≡ length (addressField n)
   short-length h = sym (ap length (short h) ∙ low-length 1 n)
 
   long-length : 255 ≤ n → 3 ≡ length (addressField n)

@@ -2,8 +2,9 @@
 mod put;
 
 ghost use mathlib.Core.Path.{_≡_};
+ghost use lib.ListN.{length};
 ghost use Rattle.base.specs.Put.{Puts};
-ghost use Rattle.frame.specs.Frame.{defaultRequestor, typed};
+ghost use Rattle.frame.specs.Frame.{defaultRequestor, typed, typedLength};
 ghost use Rattle.frame.specs.Requests.{Builds, processorType, datalog, directorySize, directoryRead};
 use sys0::Sys0Info;
 
@@ -49,6 +50,7 @@ pub fn put_typed(
     p: Place,
 ) -> usize
     ensures { λ r. ⌜ Puts (now (out .entry)) 0 (typed q sequence function size p) r (now (out .exit)) ⌝ }
+    ensures { λ r. ⌜ length (typed q sequence function size p) ≡ typedLength p ⌝ }
 {
     if out.len() < put::typed_len(p) {
         return 0;

@@ -1,4 +1,4 @@
-use Rattle.frame.proofs.Laid.{typed-full, typed-laid}
+use Rattle.frame.proofs.Laid.{typed-full, typed-laid, typed-length}
 use borrow.Author.Needs.{needs}
 use Rattle.frame.proofs.put_typed.Statement.{statement}
 use Rattle.frame.proofs.put_typed.Tie as tie
@@ -8,9 +8,9 @@ put-typed-spec =
     tie.close
     (tie.spec
     (λ c κs. search needs)
-    (λ c. search (typed-full, needs))
+    (λ c. search (typed-full, typed-length, needs))
     (λ c κs. search needs)
     (λ c κs. search needs)
     (λ c κs. search needs)
     (λ c. search needs)
-    (λ c. search (typed-laid, needs)))
+    (λ c. search (typed-laid, typed-length, needs)))

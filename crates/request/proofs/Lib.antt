@@ -1,0 +1,3 @@
+pub mod Asking
+pub mod Sent
+pub mod Supplied
