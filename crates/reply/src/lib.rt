@@ -1,0 +1,140 @@
+// What a raw reply says: its status in words, and the datalog entry that it carries.
+ghost use mathlib.Core.Path.{_≡_};
+ghost use mathlib.Core.Option.{some};
+ghost use Prim.Native.Nat.{_+_, _<_, _≤_};
+ghost use lib.ListN.{length};
+ghost use Rattle.base.specs.Chars.{bytes};
+ghost use Rattle.base.specs.Put.{Wrote};
+ghost use Rattle.reply.specs.Status.{digit as Status·digit, inHex, textOf, byteAt, said, statusText, Tells, datalogEntry};
+
+// Bytes that a status text may need.
+const ROOM: usize = 96;
+// Where a raw reply has its status.
+const STATUS: usize = 58;
+
+// Where it has what follows its header: data, or an extended status.
+const START: usize = 61;
+
+// How long a text is that was written, or why none was: there is nothing to say, or a question was answered with no.
+pub enum StatusText {
+    Nothing,
+    Written(usize),
+    Refused(u8),
+}
+
+fn write(out: &mut [u8], text: &[u8]) -> StatusText
+    requires { ⌜ length (now text) ≤ 96 ⌝ }
+    ensures { λ r. ⌜ Tells (some (now (text .entry))) (now (out .entry)) r (now (out .exit)) ⌝ }
+{
+    if out.len() < ROOM {
+        return StatusText::Refused(6);
+    }
+    StatusText::Written(base::put_all(out, 0, text))
+}
+
+// The text of a status code, as the Rust spells it.
+pub fn pccc_error_text(status: u8, out: &mut [u8]) -> StatusText
+    ensures { λ r. ⌜ Tells (textOf status) (now (out .entry)) r (now (out .exit)) ⌝ }
+{
+    match status {
+        0x10 => write(
+            out,
+            b"Illegal Command or Format, Address may not exist or not enough elements in data file",
+        ),
+        0x20 => write(out, b"PLC Has a Problem and Will Not Communicate"),
+        0x30 => write(
+            out,
+            b"Remote Node Host is Missing, Disconnected, or Shut Down",
+        ),
+        0x40 => write(
+            out,
+            b"Host Could Not Complete Function Due To Hardware Fault",
+        ),
+        0x50 => write(out, b"Addressing problem or Memory Protect Rungs"),
+        0x60 => write(
+            out,
+            b"Function not allows due to command protection selection",
+        ),
+        0x70 => write(out, b"Processor is in Program mode"),
+        0x80 => write(
+            out,
+            b"Compatibility mode file missing or communication zone problem",
+        ),
+        0x90 => write(out, b"Remote node cannot buffer command"),
+        0xF0 => write(out, b"Error code in EXT STS Byte"),
+        _ => StatusText::Nothing,
+    }
+}
+
+// A small digit.
+fn digit(d: u8) -> u8
+    requires { ⌜ d < 16 ⌝ }
+    ensures { λ r. ⌜ r ≡ Status·digit d ⌝ }
+{
+    if d < 10 { 48 + d } else { 87 + d }
+}
+
+// A byte in hexadecimal behind a text, and a closing bracket. The answer is the place behind them.
+fn lay_hex(out: &mut [u8], at: usize, before: &[u8], b: u8) -> usize
+    requires { ⌜ at + length (inHex (now before) b) ≤ length (now out) ⌝ }
+    ensures { λ r. ⌜ Wrote (now (out .entry)) at (inHex (now (before .entry)) b) r (now (out .exit)) ⌝ }
+{
+    let digits = [digit(b / 16), digit(b % 16), b')'];
+    let n = base::put_all(out, at, before);
+    base::put_all(out, n, &digits)
+}
+
+// A status without a text, as a number.
+fn unknown(status: u8, out: &mut [u8]) -> StatusText
+    ensures { λ r. ⌜ Tells (some (inHex (bytes "Unknown Status (0x") status)) (now (out .entry)) r (now (out .exit)) ⌝ }
+{
+    if out.len() < ROOM {
+        return StatusText::Refused(6);
+    }
+    StatusText::Written(lay_hex(out, 0, b"Unknown Status (0x", status))
+}
+
+// The status F0, with the extended status where the reply has one.
+fn extended(raw: &[u8], out: &mut [u8]) -> StatusText
+    ensures { λ r. ⌜ Tells (said (some 0xF0) (byteAt 61 (now (raw .entry)))) (now (out .entry)) r (now (out .exit)) ⌝ }
+{
+    let text = pccc_error_text(0xF0, out);
+    if raw.len() <= START {
+        return text;
+    }
+    match text {
+        StatusText::Nothing => StatusText::Nothing,
+        StatusText::Written(n) => StatusText::Written(lay_hex(out, n, b" (EXT STS 0x", raw[START])),
+        StatusText::Refused(k) => StatusText::Refused(k),
+    }
+}
+
+// The status of a raw reply in words; nothing where it is success.
+pub fn request_status(raw: &[u8], out: &mut [u8]) -> StatusText
+    ensures { λ r. ⌜ Tells (statusText (now (raw .entry))) (now (out .entry)) r (now (out .exit)) ⌝ }
+{
+    if raw.len() <= STATUS {
+        return write(out, b"Unknown Status");
+    }
+    let status = raw[STATUS];
+    if status == 0 {
+        return StatusText::Nothing;
+    }
+    if status == 0xF0 {
+        return extended(raw, out);
+    }
+    let text = pccc_error_text(status, out);
+    match text {
+        StatusText::Nothing => unknown(status, out),
+        StatusText::Written(n) => StatusText::Written(n),
+        StatusText::Refused(k) => StatusText::Refused(k),
+    }
+}
+
+// The datalog entry of a raw reply.
+pub fn parse_datalog(raw: &[u8]) -> &[u8]
+    ensures { λ r. ⌜ now r ≡ datalogEntry (now (raw .entry)) ⌝ }
+{
+    let from = base::least(START, raw.len());
+    &raw[from..]
+}
