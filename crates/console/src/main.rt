@@ -14,6 +14,9 @@ fn reply(line: &[u8], space: &mut [u8], more: &mut [u8], out: &mut [u8], p: Plac
     if let Told::Answered(q) = calls_codec::answer(call, line, space, more, out, p) {
         return q;
     }
+    if let Told::Answered(q) = calls_reply::answer(call, line, space, more, out, p) {
+        return q;
+    }
     say::error(out, p, b"call")
 }
 

@@ -1,0 +1,21 @@
+// `status RAWREPLY`: `ok none` or `ok TEXT`
+use crate::show;
+use say::Place;
+
+pub fn answer(line: &[u8], space: &mut [u8], out: &mut [u8], p: Place) -> Place {
+    if text::fields(line) != 2 {
+        return say::error(out, p, b"fields");
+    }
+    let got = text::unhex(text::field(line, 1), space);
+    let n = got.n;
+    if !got.good {
+        return say::error(out, p, b"hex");
+    }
+    status(&space[..n], out, p)
+}
+
+fn status(raw: &[u8], out: &mut [u8], p: Place) -> Place {
+    let mut text = [0u8; 96];
+    let t = reply::request_status(raw, &mut text);
+    show::told(t, &text, out, p)
+}
