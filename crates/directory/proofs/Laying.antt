@@ -3,7 +3,7 @@ use Prim.Native.Nat.{ℕ, suc, _+_, _-_, _/_, _≤_, _<_, min}
 use mathlib.Core.Path.{_≡_, refl, ap, sym, subst, _∙_}
 use mathlib.Core.Bool.{Bool, true, false, _&&_, cond}
 use mathlib.Core.List.{List, [], _∷_, _++_, append-assoc}
-use native.Mathlib.Nat.{add-zero, zero-add, div-le-self}
+use native.Mathlib.Nat.{add-zero, div-le-self}
 use native.Mathlib.Numerals.{add-one}
 use native.Mathlib.Omega.{arith}
 use borrow.Author.Tests.{eq-eqb, ne-eqb, leb-true, leb-false}
@@ -19,7 +19,7 @@ use Rattle.directory.specs.declared.rows.Row.{Row}
 use Rattle.directory.specs.declared.rows.Row.the-variants as row·
 use Rattle.directory.specs.declared.rows.Turn.{Turn}
 use Rattle.directory.specs.Passes.{lay, Turned}
-use Rattle.directory.specs.Rows.{rowOf, rows, numberOf, entry, filesFrom}
+use Rattle.directory.specs.Rows.{rowOf, rows, numberOf, filesFrom}
 use Rattle.directory.proofs.RowLaws.{rows-end, rows-next, saturated}
 
 -- ---- a file's fields

@@ -1,8 +1,8 @@
 -- Laws of the two calls' answers.
 use Prim.Native.Nat.{ℕ, _+_, _≤_, _<_}
-use mathlib.Core.Path.{_≡_, refl, ap, sym, subst, _∙_}
+use mathlib.Core.Path.{_≡_, refl, ap, _∙_}
 use mathlib.Core.Bool.{Bool, true, false, cond}
-use mathlib.Core.List.{List, [], _∷_, _++_}
+use mathlib.Core.List.{List, _++_}
 use native.Mathlib.Nat.{zero-add}
 use native.Mathlib.Omega.{arith}
 use borrow.Author.Tests.{lt-ltb, le-ltb, eq-eqb, ne-eqb}
@@ -14,7 +14,7 @@ use Rattle.directory.specs.declared.Listed.{Listed}
 use Rattle.directory.specs.declared.Listed.the-variants as listed·
 use Rattle.directory.specs.declared.rows.Row.{Row}
 use Rattle.directory.specs.Passes.{countFrom, lay}
-use Rattle.directory.specs.Rows.{rows, anyCut, filesFrom, Says, within, listedIn, listed, Lists}
+use Rattle.directory.specs.Rows.{rows, anyCut, filesFrom, within, listedIn, listed, Lists}
 use Rattle.directory.proofs.Counting.{count-is}
 
 -- ---- 10, or the files

@@ -6,9 +6,8 @@ use lib.IntN.{pos, negsuc}
 use lib.ListN.{replicate}
 use Rattle.base.specs.Numbers.{number}
 use Rattle.file_type.specs.Table.{first, ofCode}
-use Rattle.directory.specs.declared.DirectorySize.{DirectorySize}
 use Rattle.directory.specs.declared.DirectorySize.the-variants as size
-use Rattle.directory.specs.Rows.{rowsIn, rows, anyCut, filesFrom, Says, refuses, lists, listed}
+use Rattle.directory.specs.Rows.{rowsIn, rows, anyCut, filesFrom, refuses, lists, listed}
 use Rattle.directory.specs.Size.{sizeOf}
 
 -- O of 4 bytes, I of 6, a free number, an unknown code, T of 12

@@ -1,4 +1,4 @@
--- The rows of a file directory and the files that they name (document 01, "Directory rows" and module 5).
+-- The rows of a file directory and the files that they name (document 01, "Directory rows", "Traps" and module 5).
 use Prim.Native.Nat.{ℕ, zero, suc, _+_, _/_}
 use mathlib.Core.Path.{_≡_}
 use mathlib.Core.Bool.{Bool, true, false, _&&_, cond}
@@ -16,6 +16,7 @@ use Rattle.directory.specs.declared.Listed.the-variants as listed·
 use Rattle.directory.specs.declared.rows.Row.{Row}
 use Rattle.directory.specs.declared.rows.Row.the-variants as row·
 
+-- (`Row` is what a row says: a file with its length, a file that is cut, a number that is kept free, or nothing that counts)
 -- a known type code: a file and its length word; "Do two bytes follow every known type code met?"
 abbrev pub fileRow : FileType → List ℕ → Row
 fileRow t behind = cond (ltb (length behind) 2) row·.Cut (row·.File t (number (take 2 behind)))
@@ -39,6 +40,7 @@ rowsIn (suc most) size (code ∷ behind) = rowOf (ofCode code) code behind ∷ r
 unfoldable pub rows : ℕ → ℕ → List ℕ → List Row
 rows first size s = rowsIn (length s) size (drop first s)
 
+-- is a row cut?
 unfoldable pub anyCut : List Row → Bool
 anyCut [] = false
 anyCut (row·.File t n ∷ rs) = anyCut rs

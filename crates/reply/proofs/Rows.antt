@@ -1,7 +1,7 @@
 -- Worked rows: replies of 58 bytes and longer, as the Rust shows them.
 use Prim.Native.Nat.{ℕ}
 use mathlib.Core.Path.{_≡_, refl}
-use mathlib.Core.Option.{Option, none, some}
+use mathlib.Core.Option.{none, some}
 use mathlib.Core.List.{List, [], _∷_, _++_, map}
 use lib.ListN.{replicate}
 use Rattle.base.specs.Chars.{bytes}

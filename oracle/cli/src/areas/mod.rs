@@ -1,7 +1,9 @@
 //! What `generate` writes, by area. An area is a file here with a function `lines`, and a row of `AREAS`.
 mod address;
 mod codec;
+mod directory;
 mod file_type;
+mod reply;
 mod syntax;
 
 use crate::hex::hex;
@@ -21,6 +23,8 @@ const AREAS: &[Area] = &[
     Area { name: "file_type", calls: &["ft", "ftname", "simft"], lines: file_type::lines },
     Area { name: "address", calls: &["tag"], lines: address::lines },
     Area { name: "codec", calls: &["swap", "pairs", "ascii", "string", "enc", "dec"], lines: codec::lines },
+    Area { name: "reply", calls: &["status", "errtext", "datalogparse"], lines: reply::lines },
+    Area { name: "directory", calls: &["sys0", "dirsize", "dir"], lines: directory::lines },
 ];
 
 /// The area of damaged lines. It damages what the other areas write, so a call that is not yet ported is never in it.
