@@ -3,18 +3,19 @@ use crate::show;
 use say::Place;
 use text::Byte;
 
-pub fn answer(line: &[u8], out: &mut [u8], p: Place) -> Place {
+pub fn answer(line: &[u8], room: usize, out: &mut [u8], p: Place) -> Place {
     if text::fields(line) != 2 {
         return say::error(out, p, b"fields");
     }
     let Byte::Is(status) = text::code(text::field(line, 1)) else {
         return say::error(out, p, b"hex");
     };
-    error_text(status, out, p)
+    let mut text = [0u8; 128];
+    error_text(status, room, &mut text, out, p)
 }
 
-fn error_text(status: u8, out: &mut [u8], p: Place) -> Place {
-    let mut text = [0u8; 96];
-    let t = reply::pccc_error_text(status, &mut text);
-    show::told(t, &text, out, p)
+fn error_text(status: u8, room: usize, text: &mut [u8], out: &mut [u8], p: Place) -> Place {
+    let n = text::within(room, text);
+    let t = reply::pccc_error_text(status, &mut text[..n]);
+    show::told(t, text, out, p)
 }

@@ -2,7 +2,7 @@
 use crate::show;
 use say::Place;
 
-pub fn answer(line: &[u8], space: &mut [u8], out: &mut [u8], p: Place) -> Place {
+pub fn answer(line: &[u8], room: usize, space: &mut [u8], out: &mut [u8], p: Place) -> Place {
     if text::fields(line) != 2 {
         return say::error(out, p, b"fields");
     }
@@ -11,11 +11,12 @@ pub fn answer(line: &[u8], space: &mut [u8], out: &mut [u8], p: Place) -> Place 
     if !got.good {
         return say::error(out, p, b"hex");
     }
-    status(&space[..n], out, p)
+    let mut text = [0u8; 128];
+    status(&space[..n], room, &mut text, out, p)
 }
 
-fn status(raw: &[u8], out: &mut [u8], p: Place) -> Place {
-    let mut text = [0u8; 96];
-    let t = reply::request_status(raw, &mut text);
-    show::told(t, &text, out, p)
+fn status(raw: &[u8], room: usize, text: &mut [u8], out: &mut [u8], p: Place) -> Place {
+    let n = text::within(room, text);
+    let t = reply::request_status(raw, &mut text[..n]);
+    show::told(t, text, out, p)
 }

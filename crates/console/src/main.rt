@@ -1,12 +1,13 @@
 // Answers the lines of oracle/PROTOCOL.md: one request a line on standard input, one answer a line on standard output.
 ghost use Prim.Native.Nat.{_<_, _≤_};
 ghost use lib.ListN.{length};
+use decimal::Decimal;
 use libc::STDIN_FILENO;
 use say::Place;
 use say::Told;
 
-// Modules 1 to 3.
-fn requests(
+// The crates of calls are asked in turn, two in a function: three are more than the prover takes.
+fn elements(
     call: &[u8],
     line: &[u8],
     space: &mut [u8],
@@ -20,17 +21,68 @@ fn requests(
     calls_codec::answer(call, line, space, more, out, p)
 }
 
-// The answer to a line that is no comment. Each crate of calls has an arm here or in a function of its own; a function with three such arms
-// is more than the prover takes.
-fn reply(line: &[u8], space: &mut [u8], more: &mut [u8], out: &mut [u8], p: Place) -> Place {
-    let call = text::field(line, 0);
-    if let Told::Answered(q) = requests(call, line, space, more, out, p) {
+fn messages(
+    call: &[u8],
+    line: &[u8],
+    room: usize,
+    space: &mut [u8],
+    more: &mut [u8],
+    out: &mut [u8],
+    p: Place,
+) -> Told {
+    if let Told::Answered(q) = calls_request::answer(call, line, room, space, more, out, p) {
+        return Told::Answered(q);
+    }
+    calls_reply::answer(call, line, room, space, out, p)
+}
+
+fn known(
+    call: &[u8],
+    line: &[u8],
+    room: usize,
+    space: &mut [u8],
+    more: &mut [u8],
+    out: &mut [u8],
+    p: Place,
+) -> Told {
+    if let Told::Answered(q) = elements(call, line, space, more, out, p) {
+        return Told::Answered(q);
+    }
+    messages(call, line, room, space, more, out, p)
+}
+
+// The answer to a line of a call, which has an output of at most `room` bytes or rows, where it has one.
+fn call(line: &[u8], room: usize, space: &mut [u8], more: &mut [u8], out: &mut [u8], p: Place) -> Place {
+    let word = text::field(line, 0);
+    if let Told::Answered(q) = known(word, line, room, space, more, out, p) {
         return q;
     }
-    if let Told::Answered(q) = calls_reply::answer(call, line, space, more, out, p) {
+    if let Told::Answered(q) = calls_directory::answer(word, line, room, space, more, out, p) {
         return q;
     }
     say::error(out, p, b"call")
+}
+
+// `room ROOM CALL ..`
+fn in_room(line: &[u8], space: &mut [u8], more: &mut [u8], out: &mut [u8], p: Place) -> Place {
+    if text::fields(line) < 3 {
+        return say::error(out, p, b"fields");
+    }
+    let digits = text::field(line, 1);
+    let Decimal::Is(room) = decimal::number(digits) else {
+        return say::error(out, p, b"number");
+    };
+    let n = text::within(digits.len(), line);
+    let m = text::within(6 + n, line);
+    call(&line[m..], room as usize, space, more, out, p)
+}
+
+// The answer to a line that is no comment.
+fn reply(line: &[u8], space: &mut [u8], more: &mut [u8], out: &mut [u8], p: Place) -> Place {
+    if text::is(text::field(line, 0), b"room") {
+        return in_room(line, space, more, out, p);
+    }
+    call(line, 65535, space, more, out, p)
 }
 
 // Empty lines and lines that begin with `#` are echoed.

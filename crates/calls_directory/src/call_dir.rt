@@ -1,10 +1,13 @@
 // `dir FIRSTROW ROWSIZE DATA`: `ok n CODE:number:elements:length ..`
+ghost use mathlib.Core.Path.{_≡_};
+ghost use Prim.Native.Nat.{_≤_};
+ghost use lib.ListN.{length, take};
 use crate::show;
 use decimal::Decimal;
 use directory::Listed;
 use say::Place;
 
-pub fn answer(line: &[u8], space: &mut [u8], out: &mut [u8], p: Place) -> Place {
+pub fn answer(line: &[u8], room: usize, space: &mut [u8], out: &mut [u8], p: Place) -> Place {
     if text::fields(line) != 4 {
         return say::error(out, p, b"fields");
     }
@@ -18,6 +21,7 @@ pub fn answer(line: &[u8], space: &mut [u8], out: &mut [u8], p: Place) -> Place 
         first as usize,
         size as usize,
         text::field(line, 3),
+        room,
         space,
         out,
         p,
@@ -28,6 +32,7 @@ fn rows(
     first: usize,
     size: usize,
     digits: &[u8],
+    room: usize,
     space: &mut [u8],
     out: &mut [u8],
     p: Place,
@@ -38,24 +43,46 @@ fn rows(
         return say::error(out, p, b"hex");
     }
     if n <= 512 {
-        return few(first, size, &space[..n], out, p);
+        return few(first, size, &space[..n], room, out, p);
     }
-    many(first, size, &space[..n], out, p)
+    many(first, size, &space[..n], room, out, p)
 }
 
 // No directory has more files than bytes, so these have room for all.
-fn few(first: usize, size: usize, bytes: &[u8], out: &mut [u8], p: Place) -> Place {
+fn few(first: usize, size: usize, bytes: &[u8], room: usize, out: &mut [u8], p: Place) -> Place {
     let none = [0u32; 4];
     let mut files = [none; 512];
-    let l = directory::parse_file_directory(first, size, bytes, &mut files);
-    shown(l, &files, out, p)
+    parsed(first, size, bytes, room, &mut files, out, p)
 }
 
-fn many(first: usize, size: usize, bytes: &[u8], out: &mut [u8], p: Place) -> Place {
+fn many(first: usize, size: usize, bytes: &[u8], room: usize, out: &mut [u8], p: Place) -> Place {
     let none = [0u32; 4];
     let mut files = [none; 65535];
-    let l = directory::parse_file_directory(first, size, bytes, &mut files);
-    shown(l, &files, out, p)
+    parsed(first, size, bytes, room, &mut files, out, p)
+}
+
+fn parsed(
+    first: usize,
+    size: usize,
+    bytes: &[u8],
+    room: usize,
+    files: &mut [[u32; 4]],
+    out: &mut [u8],
+    p: Place,
+) -> Place {
+    let n = within(room, files);
+    let l = directory::parse_file_directory(first, size, bytes, &mut files[..n]);
+    shown(l, files, out, p)
+}
+
+// A number of files that there is room for.
+fn within(n: usize, files: &[[u32; 4]]) -> usize
+    ensures { λ r. ⌜ (r ≤ length (now (files .entry))) × (r ≡ length (take r (now (files .entry)))) ⌝ }
+{
+    if n < files.len() {
+        return n;
+    }
+    files.len()
 }
 
 fn shown(l: Listed, files: &[[u32; 4]], out: &mut [u8], p: Place) -> Place {

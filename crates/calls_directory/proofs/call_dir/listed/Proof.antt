@@ -1,8 +1,8 @@
 use Prim.Native.Nat.{_-_, _≤_}
 use mathlib.Core.Path.{_≡_}
 use lib.ListN.{length}
-use Rattle.calls_reply.proofs.call_dir.listed.Statement.{statement}
-use Rattle.calls_reply.proofs.call_dir.listed.Tie as tie
+use Rattle.calls_directory.proofs.call_dir.listed.Statement.{statement}
+use Rattle.calls_directory.proofs.call_dir.listed.Tie as tie
 use borrow.Author.Needs.{needs}
 
 abbrev Inv-loop : tie.InvT-loop
