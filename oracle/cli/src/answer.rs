@@ -201,6 +201,32 @@ impl Oracle {
                 Ok(format!("ok {h:016X} {}", access::datalog(slc).len()))
             }
             Call::Directory => ok(&access::directory(self.slc()?)),
+            Call::Room(room, call) => self.in_room(room, *call),
+        }
+    }
+
+    /// The answer, or 6 or 10 where the output would need more room. (The Rust's outputs are vectors.)
+    fn in_room(&mut self, room: u64, call: Call) -> Answer {
+        let bytes = match call {
+            Call::Read(..)
+            | Call::Processor(..)
+            | Call::DatalogRequest(..)
+            | Call::DirectorySizeRequest(..)
+            | Call::DirectoryReadRequest(..) => 27,
+            Call::Write(..) => 284,
+            Call::Status(..) | Call::ErrorText(..) => 96,
+            _ => 0,
+        };
+        let rows = matches!(call, Call::DirectoryRows(..));
+        let answer = self.call(call)?;
+        if self.raw || answer == "ok none" {
+            return Ok(answer);
+        }
+        let files = || answer.split(' ').nth(1).and_then(|n| n.parse::<u64>().ok());
+        match room {
+            _ if room < bytes => Err(refused(6)),
+            _ if rows && files().is_some_and(|n| room < n) => Err(refused(10)),
+            _ => Ok(answer),
         }
     }
 

@@ -95,6 +95,8 @@ pub enum Call {
     Dump,
     Hash,
     Directory,
+    /// A call whose output has so many bytes, or rows.
+    Room(u64, Box<Call>),
 }
 
 /// How many fields a line has, the call's word included.
@@ -103,10 +105,14 @@ pub enum Count {
     Of(usize),
     /// The place of the KIND field, and the kinds with the number of fields behind it.
     Kind(usize, &'static [(&'static str, usize)]),
+    /// At least so many: another call stands behind its own fields.
+    Rest(usize),
 }
-use Count::{Kind, Of};
+use Count::{Kind, Of, Rest};
 
-const WRITE_KINDS: &[(&str, usize)] = &[
+const WRITE_KINDS: &[(&str, usize)] = &[("raw", 1), ("bool", 1), ("text", 1)];
+/// With the kinds of A1 of document 02, which `write` doesn't know yet.
+const VALUE_KINDS: &[(&str, usize)] = &[
     ("raw", 1),
     ("bool", 1),
     ("text", 1),
@@ -130,7 +136,7 @@ pub const CALLS: &[(&str, Count, Reader)] = &[
     ("tag", Of(2), |f| Ok(Call::Tag(f.bytes()?))),
     ("read", Of(4), |f| Ok(Call::Read(f.bytes()?, f.req()?, f.seq()?))),
     ("write", Kind(4, WRITE_KINDS), |f| Ok(Call::Write(f.bytes()?, f.req()?, f.seq()?, f.write_value()?))),
-    ("wvalue", Kind(2, WRITE_KINDS), |f| Ok(Call::WritableValue(f.bytes()?, f.write_value()?))),
+    ("wvalue", Kind(2, VALUE_KINDS), |f| Ok(Call::WritableValue(f.bytes()?, f.write_value()?))),
     ("proc", Of(3), |f| Ok(Call::Processor(f.req()?, f.seq()?))),
     ("datalogreq", Of(2), |f| Ok(Call::DatalogRequest(f.byte()?))),
     ("sys0", Of(2), |f| Ok(Call::Sys0(f.bytes()?))),
@@ -160,6 +166,7 @@ pub const CALLS: &[(&str, Count, Reader)] = &[
     ("dump", Of(1), |_| Ok(Call::Dump)),
     ("hash", Of(1), |_| Ok(Call::Hash)),
     ("directory", Of(1), |_| Ok(Call::Directory)),
+    ("room", Rest(3), |f| Ok(Call::Room(f.number()?, Box::new(f.call()?)))),
 ];
 
 /// The number of fields and the reader of a call, None for a word that is no call.
@@ -180,7 +187,10 @@ pub fn parse(line: &[u8]) -> Result<Option<Call>, Why> {
     if line.is_empty() || line[0] == b'#' {
         return Ok(None);
     }
-    let fields = split(line);
+    parse_fields(&split(line)).map(Some)
+}
+
+fn parse_fields(fields: &[&[u8]]) -> Result<Call, Why> {
     let (_, count, read) = call(fields[0]).ok_or(Why::Call)?;
     let expected = match *count {
         Of(n) => n,
@@ -189,11 +199,12 @@ pub fn parse(line: &[u8]) -> Result<Option<Call>, Why> {
             let known = kinds.iter().find(|(name, _)| name.as_bytes() == *kind);
             at + 1 + known.ok_or(Why::Kind)?.1
         }
+        Rest(least) => fields.len().max(least),
     };
     if fields.len() != expected {
         return Err(Why::Fields);
     }
-    read(&mut Fields { left: &fields[1..] }).map(Some)
+    read(&mut Fields { left: &fields[1..] })
 }
 
 /// The fields that are still to be read; their number is already right.
@@ -206,6 +217,13 @@ impl<'a> Fields<'a> {
         let (first, rest) = self.left.split_first().expect("the number of fields");
         self.left = rest;
         first
+    }
+    /// The call that stands behind `room` and its number.
+    fn call(&mut self) -> Result<Call, Why> {
+        match self.left[0] {
+            b"room" => Err(Why::Call),
+            _ => parse_fields(self.left),
+        }
     }
     fn bytes(&mut self) -> Result<Vec<u8>, Why> {
         match self.next() {

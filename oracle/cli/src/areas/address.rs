@@ -1,22 +1,102 @@
 //! Address texts: `tag`.
-use super::{Lines, any_hex, then_random};
+use super::{Lines, any_hex, text_or_none, then_random};
 use crate::hex::hex;
 use crate::rng::Rng;
 
 const NAMES: &[&str] = &["PRE", "ACC", "EN", "TT", "DN", "CU", "CD", "OV", "UN", "UA"];
 /// Texts that settle a rule of document 01's "Address spelling", and its worked rows.
-const SETTLED: &[&str] = &[
-    "", "N7:0", "T4:123PRE", "I99:3.300/5", "B3/4095", "B3/4096", "N7:0{0}", "N7:0{127}", "N7:0{128}", "ST9:0{1}", "ST9:0{2}",
-    "ST9:0{3}", "ST9:0{01}", "ST9:0{}", "N7:0/3{2}", "N7:0/3{0}", "N7:0/3{1}", "ST9:0255", "ST9:0256", "ST9:00255", "A9:0255", "A9:0256",
-    "I999:0", "O000:0", "I1000:0", "I:0", "O:0", "I:255", "I:256", "I:0.999", "I:0.1000", "O:1.2/15", "O:1.2/16", "S:0", "S:255/15",
-    "S:1/15{3}", "S:1{3}", "S2:1", "L9:0/15", "F8:0/15", "R6:0", "R6:0.LEN", "C5:0.PRE", "C5:0{PRE", "C5:0\0PRE", "C5:0\rPRE",
-    "C5:0\nPRE", "C5:00PRE", "C5:0000PRE", "C5:1234PRE", "T4:256.ACC", "T4:255.ACC", "T0:0.ACC", "T256:0.ACC", "t4:0.acc", "T4:0.ACC{1}",
-    "N0:0", "N255:255", "N256:0", "N7:256", "N007:000", "N0007:0", "N7:0000", "N7:0/015", "N7:0/", "N7:", "N:0", "N7:0{", "N7:0}", "N7:0{1",
-    "N7:0{1}x", "MG9:0", "PD9:0", "PLS9:0", "n7:0", "st9:0", "sT9:0", "X7:0", " N7:0", "N7:0 ", "N7:0.1",
+pub(super) const SETTLED: &[&str] = &[
+    "",
+    "N7:0",
+    "T4:123PRE",
+    "I99:3.300/5",
+    "B3/4095",
+    "B3/4096",
+    "N7:0{0}",
+    "N7:0{127}",
+    "N7:0{128}",
+    "ST9:0{1}",
+    "ST9:0{2}",
+    "ST9:0{3}",
+    "ST9:0{01}",
+    "ST9:0{}",
+    "N7:0/3{2}",
+    "N7:0/3{0}",
+    "N7:0/3{1}",
+    "ST9:0255",
+    "ST9:0256",
+    "ST9:00255",
+    "A9:0255",
+    "A9:0256",
+    "I999:0",
+    "O000:0",
+    "I1000:0",
+    "I:0",
+    "O:0",
+    "I:255",
+    "I:256",
+    "I:0.999",
+    "I:0.1000",
+    "O:1.2/15",
+    "O:1.2/16",
+    "S:0",
+    "S:255/15",
+    "S:1/15{3}",
+    "S:1{3}",
+    "S2:1",
+    "L9:0/15",
+    "F8:0/15",
+    "R6:0",
+    "R6:0.LEN",
+    "C5:0.PRE",
+    "C5:0{PRE",
+    "C5:0\0PRE",
+    "C5:0\rPRE",
+    "C5:0\nPRE",
+    "C5:00PRE",
+    "C5:0000PRE",
+    "C5:1234PRE",
+    "T4:256.ACC",
+    "T4:255.ACC",
+    "T0:0.ACC",
+    "T256:0.ACC",
+    "t4:0.acc",
+    "T4:0.ACC{1}",
+    "N0:0",
+    "N255:255",
+    "N256:0",
+    "N7:256",
+    "N007:000",
+    "N0007:0",
+    "N7:0000",
+    "N7:0/015",
+    "N7:0/",
+    "N7:",
+    "N:0",
+    "N7:0{",
+    "N7:0}",
+    "N7:0{1",
+    "N7:0{1}x",
+    "MG9:0",
+    "PD9:0",
+    "PLS9:0",
+    "n7:0",
+    "st9:0",
+    "sT9:0",
+    "X7:0",
+    " N7:0",
+    "N7:0 ",
+    "N7:0.1",
 ];
 
+pub fn settled() -> Vec<String> {
+    SETTLED
+        .iter()
+        .map(|t| format!("tag {}", text_or_none(t.as_bytes())))
+        .collect()
+}
+
 pub fn lines(rng: Rng) -> Lines {
-    let settled = SETTLED.iter().map(|t| format!("tag {}", hex(t.as_bytes()))).collect();
     let mut short: Vec<Vec<u8>> = (0..=255).map(|b| vec![b]).collect();
     for a in b"NSITBO" {
         for b in b"7:/.{" {
@@ -24,7 +104,7 @@ pub fn lines(rng: Rng) -> Lines {
         }
     }
     let short = short.iter().map(|t| format!("tag {}", hex(t))).collect();
-    then_random(vec![settled, short], rng, random)
+    then_random(vec![settled(), short], rng, random)
 }
 
 fn random(rng: &mut Rng) -> String {
@@ -54,7 +134,13 @@ fn digits(rng: &mut Rng, ends: &[u64]) -> String {
 fn count(rng: &mut Rng) -> String {
     match rng.below(6) {
         0 => format!("{{{}}}", digits(rng, &[0, 1, 2, 3, 127, 128, 255, 256])),
-        1 => format!("{{{}}}", digits(rng, &[u64::MAX, u64::MAX - 1, 1 << 63, 9_999_999_999_999_999_999])),
+        1 => format!(
+            "{{{}}}",
+            digits(
+                rng,
+                &[u64::MAX, u64::MAX - 1, 1 << 63, 9_999_999_999_999_999_999]
+            )
+        ),
         2 => format!("{{{}0}}", digits(rng, &[u64::MAX, 1 << 61])),
         _ => String::new(),
     }
@@ -68,7 +154,7 @@ fn bit(rng: &mut Rng) -> String {
 }
 
 /// One of the seven spellings, mostly in range.
-fn spelled(rng: &mut Rng) -> Vec<u8> {
+pub(super) fn spelled(rng: &mut Rng) -> Vec<u8> {
     let file = digits(rng, &[0, 1, 7, 254, 255, 256, 999, 1000]);
     let element = digits(rng, &[0, 1, 9, 254, 255, 256, 999, 1000]);
     let (bit, count) = (bit(rng), count(rng));
@@ -78,18 +164,27 @@ fn spelled(rng: &mut Rng) -> Vec<u8> {
             let separator = rng.pick(b"./:0123456789A{ \0\r\n");
             format!("{letter}{file}:{element}{}{name}", char::from(separator))
         }
-        1 | 2 => format!("{}{file}:{element}{bit}{count}", rng.pick(&["L", "F", "B", "N"])),
+        1 | 2 => format!(
+            "{}{file}:{element}{bit}{count}",
+            rng.pick(&["L", "F", "B", "N"])
+        ),
         3 => {
             let ignored = if rng.once_in(2) { file } else { String::new() };
             let position = match rng.below(2) {
                 0 => format!(".{}", digits(rng, &[0, 1, 254, 255, 256, 300, 999, 1000])),
                 _ => String::new(),
             };
-            format!("{}{ignored}:{element}{position}{bit}{count}", rng.pick(&["I", "O"]))
+            format!(
+                "{}{ignored}:{element}{position}{bit}{count}",
+                rng.pick(&["I", "O"])
+            )
         }
         4 => format!("{}{file}:{element}{count}", rng.pick(&["ST", "A"])),
         5 => format!("S:{element}{bit}{count}"),
-        _ => format!("B{file}/{}{count}", digits(rng, &[0, 15, 16, 4094, 4095, 4096, 9999, 10000])),
+        _ => format!(
+            "B{file}/{}{count}",
+            digits(rng, &[0, 15, 16, 4094, 4095, 4096, 9999, 10000])
+        ),
     };
     let mut tag = text.into_bytes();
     if rng.once_in(4) {
@@ -99,7 +194,7 @@ fn spelled(rng: &mut Rng) -> Vec<u8> {
     tag
 }
 
-fn damage(rng: &mut Rng, tag: &mut Vec<u8>) {
+pub(super) fn damage(rng: &mut Rng, tag: &mut Vec<u8>) {
     let at = rng.below(tag.len() + 1);
     let byte = match rng.below(3) {
         0 => rng.byte(),
@@ -114,9 +209,12 @@ fn damage(rng: &mut Rng, tag: &mut Vec<u8>) {
 }
 
 /// Around 255 bytes, by digits of the count.
-fn lengthen(rng: &mut Rng, tag: &mut Vec<u8>) {
+pub(super) fn lengthen(rng: &mut Rng, tag: &mut Vec<u8>) {
     tag.extend(b"{");
-    let n = rng.pick(&[240usize, 250, 255, 256, 300]).saturating_sub(tag.len() + 1) + rng.below(3);
+    let n = rng
+        .pick(&[240usize, 250, 255, 256, 300])
+        .saturating_sub(tag.len() + 1)
+        + rng.below(3);
     tag.extend((0..n).map(|_| rng.pick(b"0019")));
     tag.extend(b"}");
 }

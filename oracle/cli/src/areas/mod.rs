@@ -4,6 +4,7 @@ mod codec;
 mod directory;
 mod file_type;
 mod reply;
+mod request;
 mod syntax;
 
 use crate::hex::hex;
@@ -22,6 +23,7 @@ struct Area {
 const AREAS: &[Area] = &[
     Area { name: "file_type", calls: &["ft", "ftname", "simft"], lines: file_type::lines },
     Area { name: "address", calls: &["tag"], lines: address::lines },
+    Area { name: "request", calls: &["read", "write", "proc", "datalogreq", "dirsizereq", "dirreadreq", "room"], lines: request::lines },
     Area { name: "codec", calls: &["swap", "pairs", "ascii", "string", "enc", "dec"], lines: codec::lines },
     Area { name: "reply", calls: &["status", "errtext", "datalogparse"], lines: reply::lines },
     Area { name: "directory", calls: &["sys0", "dirsize", "dir"], lines: directory::lines },
@@ -77,6 +79,20 @@ fn in_turn(mut parts: Vec<Lines>) -> Lines {
         }
         None
     }))
+}
+
+/// Lines that settle a rule each: all of them are in the stored sample.
+pub fn settled() -> Vec<Vec<u8>> {
+    let lines = address::settled().into_iter().chain(request::settled());
+    lines.map(String::into_bytes).collect()
+}
+
+/// A byte string.
+fn text_or_none(bytes: &[u8]) -> String {
+    match bytes {
+        [] => "-".to_string(),
+        some => hex(some),
+    }
 }
 
 /// A list of lines as a part.

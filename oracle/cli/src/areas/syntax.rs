@@ -146,7 +146,7 @@ fn samples(calls: &[&str], whole: &mut Lines) -> Vec<Vec<u8>> {
     let mut wanted: Vec<(&[u8], &[u8])> = Vec::new();
     for (name, count, _) in CALLS.iter().filter(|c| calls.contains(&c.0)) {
         match count {
-            Count::Of(_) => wanted.push((name.as_bytes(), b"")),
+            Count::Of(_) | Count::Rest(_) => wanted.push((name.as_bytes(), b"")),
             Count::Kind(_, kinds) => {
                 wanted.extend(kinds.iter().map(|k| (name.as_bytes(), k.0.as_bytes())));
             }

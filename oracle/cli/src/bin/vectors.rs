@@ -1,7 +1,7 @@
 //! `vectors DIR BY-HAND SEED N`: writes DIR/stdin and DIR/stdout, the sample that the repository's gate replays.
 //!
-//! From N generated lines it takes some of every call, kind, type and answer, up to `ROOM` bytes; the answers are
-//! the oracle's, and lines that the Rust cannot be asked are left out. Then come the lines of BY-HAND: `> request`
+//! It takes the lines that settle a rule, then of N generated lines some of every call, kind, type and answer, up to `ROOM` bytes; the
+//! answers are the oracle's, and lines that the Rust cannot be asked are left out. Then come the lines of BY-HAND: `> request`
 //! and `< answer`, comments as they are. Where the oracle can answer one of these, it must give the same answer.
 use oracle::answer::{Oracle, not_asked};
 use oracle::areas;
@@ -71,7 +71,8 @@ fn sample(seed: u64, n: usize, room: usize) -> Vec<Vec<u8>> {
     let mut oracle = Oracle::new(false);
     let mut groups: BTreeMap<Group, BTreeMap<Vec<u8>, Vec<Line>>> = BTreeMap::new();
     let mut longer: Vec<Line> = Vec::new();
-    let mut met = BTreeSet::new();
+    let settled = areas::settled();
+    let mut met: BTreeSet<Vec<u8>> = settled.iter().cloned().collect();
     let lines = areas::lines(seed, &[]).expect("all areas");
     for (at, line) in lines.take(n).enumerate() {
         let answer = oracle.line(&line);
@@ -90,7 +91,11 @@ fn sample(seed: u64, n: usize, room: usize) -> Vec<Vec<u8>> {
     let mut rng = Rng::new(seed, "vectors");
     rng.shuffle(&mut longer);
     longer.truncate(LONGER.0);
-    let mut taken = longer;
+    let sized = |line: Vec<u8>| {
+        let size = line.len() + Oracle::new(false).line(&line).len() + 2;
+        (0, line, size)
+    };
+    let mut taken: Vec<Line> = settled.into_iter().map(sized).chain(longer).collect();
     let mut used: usize = taken.iter().map(|t| t.2).sum();
     let mut take = |line: Line| {
         let fits = used + line.2 <= room;
