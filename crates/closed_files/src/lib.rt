@@ -1,0 +1,1 @@
+// Holds the statement and the proof of the closed-file rule.

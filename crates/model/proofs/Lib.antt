@@ -1,0 +1,15 @@
+pub mod Tests
+pub mod Overlay
+pub mod Table
+pub mod Files
+pub mod Asked
+pub mod Steps
+pub mod Plain
+pub mod Directory
+pub mod Replies
+pub mod Building
+pub mod Elements
+pub mod Requests
+pub mod Masked
+pub mod Reader
+pub mod Rows

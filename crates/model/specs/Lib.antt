@@ -1,0 +1,13 @@
+pub mod State
+pub mod Files
+pub mod Masked
+pub mod Directory
+pub mod Params
+pub mod Ask
+pub mod Frame
+pub mod Step
+pub mod Plain
+pub mod Pccc
+pub mod Build
+pub mod Elements
+pub mod Worked
