@@ -9,7 +9,14 @@ use say::Told;
 
 // Answers a line that begins with one of these calls; a status text is written to an output of at most `room` bytes. `space` is for the
 // bytes of its fields.
-pub fn answer(call: &[u8], line: &[u8], room: usize, space: &mut [u8], out: &mut [u8], p: Place) -> Told {
+pub fn answer(
+    call: &[u8],
+    line: &[u8],
+    room: usize,
+    space: &mut [u8],
+    out: &mut [u8],
+    p: Place,
+) -> Told {
     if text::is(call, b"status") {
         return Told::Answered(call_status::answer(line, room, space, out, p));
     }

@@ -52,7 +52,14 @@ fn known(
 }
 
 // The answer to a line of a call, which has an output of at most `room` bytes or rows, where it has one.
-fn call(line: &[u8], room: usize, space: &mut [u8], more: &mut [u8], out: &mut [u8], p: Place) -> Place {
+fn call(
+    line: &[u8],
+    room: usize,
+    space: &mut [u8],
+    more: &mut [u8],
+    out: &mut [u8],
+    p: Place,
+) -> Place {
     let word = text::field(line, 0);
     if let Told::Answered(q) = known(word, line, room, space, more, out, p) {
         return q;
