@@ -7,7 +7,7 @@ use say::Place;
 use say::Told;
 
 // The crates of calls are asked in turn, two in a function: three are more than the prover takes.
-fn elements(
+fn types(
     call: &[u8],
     line: &[u8],
     space: &mut [u8],
@@ -18,7 +18,22 @@ fn elements(
     if let Told::Answered(q) = calls_address::answer(call, line, space, out, p) {
         return Told::Answered(q);
     }
-    calls_codec::answer(call, line, space, more, out, p)
+    calls_type::answer(call, line, space, more, out, p)
+}
+
+fn elements(
+    call: &[u8],
+    line: &[u8],
+    room: usize,
+    space: &mut [u8],
+    more: &mut [u8],
+    out: &mut [u8],
+    p: Place,
+) -> Told {
+    if let Told::Answered(q) = types(call, line, space, more, out, p) {
+        return Told::Answered(q);
+    }
+    calls_element::answer(call, line, room, space, more, out, p)
 }
 
 fn messages(
@@ -45,7 +60,7 @@ fn known(
     out: &mut [u8],
     p: Place,
 ) -> Told {
-    if let Told::Answered(q) = elements(call, line, space, more, out, p) {
+    if let Told::Answered(q) = elements(call, line, room, space, more, out, p) {
         return Told::Answered(q);
     }
     messages(call, line, room, space, more, out, p)

@@ -205,7 +205,7 @@ impl Oracle {
         }
     }
 
-    /// The answer, or 6 or 10 where the output would need more room. (The Rust's outputs are vectors.)
+    /// The answer, or 6, 10, 17 or 24 where the output would need more room. (The Rust's outputs are vectors.)
     fn in_room(&mut self, room: u64, call: Call) -> Answer {
         let bytes = match call {
             Call::Read(..)
@@ -218,6 +218,10 @@ impl Oracle {
             _ => 0,
         };
         let rows = matches!(call, Call::DirectoryRows(..));
+        if !self.raw && matches!(call, Call::Command(..)) && room < 514 {
+            self.slc()?; // 16 comes first
+            return Err(refused(17));
+        }
         let answer = self.call(call)?;
         if self.raw || answer == "ok none" {
             return Ok(answer);
@@ -226,6 +230,7 @@ impl Oracle {
         match room {
             _ if room < bytes => Err(refused(6)),
             _ if rows && files().is_some_and(|n| room < n) => Err(refused(10)),
+            0..82 if answer.starts_with("ok s:") => Err(refused(24)),
             _ => Ok(answer),
         }
     }

@@ -2,8 +2,8 @@ use Prim.Native.Nat.{_-_, _≤_}
 use mathlib.Core.Path.{_≡_}
 use lib.ListN.{length}
 use borrow.Author.Needs.{needs}
-use Rattle.calls_codec.proofs.call_simft.bits.Statement.{statement}
-use Rattle.calls_codec.proofs.call_simft.bits.Tie as tie
+use Rattle.calls_type.proofs.call_simft.bits.Statement.{statement}
+use Rattle.calls_type.proofs.call_simft.bits.Tie as tie
 
 abbrev Inv-loop : tie.InvT-loop
 Inv-loop t out₀ n q₀ i₀ t8 out q i = (i ≤ n) × (length out ≡ length out₀)

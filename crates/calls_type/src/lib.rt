@@ -1,16 +1,12 @@
-// The calls of the line protocol on file types and element codecs (modules 1 and 2), one file each.
+// The calls of the line protocol on file types and texts (modules 1 and 2), one file each.
 mod call_ascii;
-mod call_dec;
-mod call_enc;
 mod call_ft;
 mod call_ftname;
 mod call_pairs;
 mod call_simft;
 mod call_string;
 mod call_swap;
-mod given;
 mod show;
-mod shown;
 
 use say::Place;
 use say::Told;
@@ -51,23 +47,6 @@ fn texts(
     Told::Unknown
 }
 
-fn elements(
-    call: &[u8],
-    line: &[u8],
-    space: &mut [u8],
-    more: &mut [u8],
-    out: &mut [u8],
-    p: Place,
-) -> Told {
-    if text::is(call, b"enc") {
-        return Told::Answered(call_enc::answer(line, space, more, out, p));
-    }
-    if text::is(call, b"dec") {
-        return Told::Answered(call_dec::answer(line, space, more, out, p));
-    }
-    Told::Unknown
-}
-
 // Answers a line that begins with one of these calls; `space` and `more` are for the bytes of its fields.
 pub fn answer(
     call: &[u8],
@@ -80,8 +59,5 @@ pub fn answer(
     if let Told::Answered(q) = types(call, line, space, out, p) {
         return Told::Answered(q);
     }
-    if let Told::Answered(q) = texts(call, line, space, more, out, p) {
-        return Told::Answered(q);
-    }
-    elements(call, line, space, more, out, p)
+    texts(call, line, space, more, out, p)
 }

@@ -2,8 +2,8 @@ use Prim.Native.Nat.{_-_, _≤_, _<_}
 use mathlib.Core.Path.{_≡_}
 use lib.ListN.{length}
 use borrow.Author.Needs.{needs}
-use Rattle.calls_codec.proofs.shown.named_bits.Statement.{statement}
-use Rattle.calls_codec.proofs.shown.named_bits.Tie as tie
+use Rattle.calls_element.proofs.shown.named_bits.Statement.{statement}
+use Rattle.calls_element.proofs.shown.named_bits.Tie as tie
 
 abbrev Inv-loop : tie.InvT-loop
 Inv-loop w out₀ n rest₀ q₀ i₀ out rest q i = (i ≤ n) × (rest < 65536) × (length out ≡ length out₀)

@@ -5,7 +5,14 @@ use file_type::Known;
 use say::Place;
 use text::Byte;
 
-pub fn answer(line: &[u8], space: &mut [u8], more: &mut [u8], out: &mut [u8], p: Place) -> Place {
+pub fn answer(
+    line: &[u8],
+    room: usize,
+    space: &mut [u8],
+    more: &mut [u8],
+    out: &mut [u8],
+    p: Place,
+) -> Place {
     if text::fields(line) != 3 {
         return say::error(out, p, b"fields");
     }
@@ -20,6 +27,7 @@ pub fn answer(line: &[u8], space: &mut [u8], more: &mut [u8], out: &mut [u8], p:
     let Known::Is(t) = FileType::from_code(code) else {
         return say::refused(out, p, 19);
     };
-    let e = decode::decode_element(t, &space[..n], more);
+    let m = text::within(room, more);
+    let e = decode::decode_element(t, &space[..n], &mut more[..m]);
     shown::element(t, e, more, out, p)
 }
