@@ -6,6 +6,9 @@ use libc::STDIN_FILENO;
 use say::Place;
 use say::Told;
 
+// Of the second memory for bytes of fields so many are for them; behind them stands the simulated processor.
+const SCRATCH: usize = 131072;
+
 // The crates of calls are asked in turn, two in a function: three are more than the prover takes.
 fn types(
     call: &[u8],
@@ -66,6 +69,45 @@ fn known(
     messages(call, line, room, space, more, out, p)
 }
 
+fn processors(
+    call: &[u8],
+    line: &[u8],
+    room: usize,
+    space: &mut [u8],
+    more: &mut [u8],
+    out: &mut [u8],
+    p: Place,
+) -> Told {
+    let m = text::within(SCRATCH, more);
+    if let Told::Answered(q) = calls_directory::answer(
+        call,
+        line,
+        room,
+        space,
+        &mut more[..m],
+        out,
+        p,
+    ) {
+        return Told::Answered(q);
+    }
+    simulated(call, line, room, space, &mut more[m..], out, p)
+}
+
+fn simulated(
+    call: &[u8],
+    line: &[u8],
+    room: usize,
+    space: &mut [u8],
+    store: &mut [u8],
+    out: &mut [u8],
+    p: Place,
+) -> Told {
+    if let Told::Answered(q) = calls_sim::answer(call, line, space, store, out, p) {
+        return Told::Answered(q);
+    }
+    calls_processor::answer(call, line, room, space, store, out, p)
+}
+
 // The answer to a line of a call, which has an output of at most `room` bytes or rows, where it has one.
 fn call(
     line: &[u8],
@@ -76,10 +118,11 @@ fn call(
     p: Place,
 ) -> Place {
     let word = text::field(line, 0);
-    if let Told::Answered(q) = known(word, line, room, space, more, out, p) {
+    let m = text::within(SCRATCH, more);
+    if let Told::Answered(q) = known(word, line, room, space, &mut more[..m], out, p) {
         return q;
     }
-    if let Told::Answered(q) = calls_directory::answer(word, line, room, space, more, out, p) {
+    if let Told::Answered(q) = processors(word, line, room, space, more, out, p) {
         return q;
     }
     say::error(out, p, b"call")
@@ -304,7 +347,7 @@ fn main() {
     let mut input = io::large_buffer();
     let mut line = [0u8; 262145];
     let mut space = [0u8; 131072];
-    let mut more = [0u8; 131072];
+    let mut more = [0u8; 214920];
     let mut out = [0u8; 65536];
     answer_input(&mut input, &mut line, &mut space, &mut more, &mut out);
 }

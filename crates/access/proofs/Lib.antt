@@ -1,0 +1,2 @@
+pub mod Accessing
+pub mod Wanting

@@ -1,0 +1,65 @@
+-- What the two calls want, and what they answer, as the law takes it.
+use denote.Enum.Laws as EL
+use denote.Struct.Laws as LL
+use Rattle.decode.proofs.Element as E
+use Rattle.decode.proofs.Element.Laws as E′
+use Rattle.element.proofs.Setting as S
+use Rattle.element.proofs.Setting.Laws as S′
+use Rattle.element.proofs.Spot as P
+use Rattle.element.proofs.Spot.Laws as P′
+use Rattle.encode.proofs.Value as A
+use Rattle.encode.proofs.Value.Laws as A′
+use Rattle.encode.proofs.Stored as O
+use Rattle.encode.proofs.Stored.Laws as O′
+use mir.Syntax.{w64, tyInt, tcons, tnil}
+use mir.Val.{vint, vcons, vnil}
+use Rattle.file_type.proofs.FileType as F
+use Rattle.file_type.proofs.FileType.Laws as F′
+use Rattle.table.proofs.Surveying.{State}
+use Rattle.access.proofs.Accessing.{Wanted}
+
+abbrev pub spot : Wanted
+spot = record {
+  type = P.the-row;
+  name = P.struct .name;
+  fields = tcons F′.mir (tcons (tyInt w64) tnil);
+  number = λ d. d .number;
+  values = λ d. vcons (EL.val F.the-type F′.the-laws (d .«file_type»)) (vcons (vint w64 (d .element)) vnil);
+  tells = LL.tells P.the-type P′.the-laws;
+  small = λ d w is. LL.owed P.the-type P′.the-laws d _ is .0 .1;
+  typed = λ 𝓤 H A W d w is. LL.lawful P.the-type P′.the-laws 𝓤 H A W .typed d _ is .0;
+  makes = λ 𝓤 H A W. LL.makes P.the-type P′.the-plain 𝓤 H A;
+}
+
+abbrev pub setting : Wanted
+setting = record {
+  type = S.the-row;
+  name = S.struct .name;
+  fields = tcons F′.mir (tcons (tyInt w64) (tcons A′.mir tnil));
+  number = λ d. d .number;
+  values = λ d. vcons (EL.val F.the-type F′.the-laws (d .«file_type»)) (vcons (vint w64 (d .element)) (vcons (EL.val A.the-type A′.the-laws (d .value)) vnil));
+  tells = LL.tells S.the-type S′.the-laws;
+  small = λ d w is. LL.owed S.the-type S′.the-laws d _ is .0 .1;
+  typed = λ 𝓤 H A W d w is. LL.lawful S.the-type S′.the-laws 𝓤 H A W .typed d _ is .0;
+  makes = λ 𝓤 H A W. LL.makes S.the-type S′.the-plain 𝓤 H A;
+}
+
+abbrev pub element : State
+element = record {
+  row = E.the-row;
+  σ = E′.mir;
+  val = EL.val E.the-type E′.the-laws;
+  tells = EL.tells E.the-type E′.the-laws;
+  typed = λ 𝓤 H A W d w is. EL.lawful E.the-type E′.the-laws 𝓤 H A W tt .typed d _ is .0;
+  makes = λ 𝓤 H A W. EL.makes E.the-type E′.the-plain 𝓤 H A;
+}
+
+abbrev pub stored : State
+stored = record {
+  row = O.the-row;
+  σ = O′.mir;
+  val = EL.val O.the-type O′.the-laws;
+  tells = EL.tells O.the-type O′.the-laws;
+  typed = λ 𝓤 H A W d w is. EL.lawful O.the-type O′.the-laws 𝓤 H A W tt .typed d _ is .0;
+  makes = λ 𝓤 H A W. EL.makes O.the-type O′.the-plain 𝓤 H A;
+}

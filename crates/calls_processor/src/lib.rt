@@ -1,0 +1,26 @@
+// The calls of the line protocol that ask the simulated processor (module 6), one file each. Its plain data stands in `store`.
+mod call_cmd;
+mod call_directory;
+
+use say::Place;
+use say::Told;
+
+// Answers a line that begins with one of these calls; a reply or a text that is read has an output of at most `room` bytes. `space` is for
+// the bytes of its fields.
+pub fn answer(
+    call: &[u8],
+    line: &[u8],
+    room: usize,
+    space: &mut [u8],
+    store: &mut [u8],
+    out: &mut [u8],
+    p: Place,
+) -> Told {
+    if text::is(call, b"cmd") {
+        return Told::Answered(call_cmd::answer(line, room, space, store, out, p));
+    }
+    if text::is(call, b"directory") {
+        return Told::Answered(call_directory::answer(line, store, out, p));
+    }
+    Told::Unknown
+}

@@ -1,0 +1,27 @@
+use Prim.Native.Nat.{_-_, _≤_}
+use mathlib.Core.Path.{_≡_}
+use lib.ListN.{length}
+use Rattle.calls_sim.proofs.call_dump.files.Statement.{statement}
+use Rattle.calls_sim.proofs.call_dump.files.Tie as tie
+use borrow.Author.Needs.{needs}
+
+abbrev Inv-loop : tie.InvT-loop
+Inv-loop n store out₀ q₀ i₀ out q i = (i ≤ n) × (length out ≡ length out₀)
+
+abbrev μ-loop : tie.MeasureT-loop
+μ-loop n store out₀ q₀ i₀ out q i = n - i
+
+pub files-spec : {M : Type 1} → statement M
+files-spec =
+    tie.close
+    (tie.spec
+    Inv-loop
+    μ-loop
+    (λ c. search needs)
+    (λ c κs. search needs)
+    (λ c κs. search needs)
+    (λ c. search needs)
+    (λ c. search needs)
+    (λ c. search needs)
+    (λ c. search needs)
+    (λ c. search needs))

@@ -1,0 +1,40 @@
+use Rattle.core.proofs.Obeying.{wants-bad, wants-diagnostic, wants-directory, wants-entry, wants-illegal, wants-read, wants-write}
+use borrow.Author.Needs.{needs}
+use Rattle.core.proofs.obey.Statement.{statement}
+use Rattle.core.proofs.obey.Tie as tie
+
+pub obey-spec : {M : Type 1} → statement M
+obey-spec =
+    tie.close
+    (tie.spec
+    (λ c. search needs)
+    (λ c. search needs)
+    (λ c κs. search needs)
+    (λ c. search needs)
+    (λ c κs. search needs)
+    (λ c. search needs)
+    (λ c κs. search needs)
+    (λ c. search needs)
+    (λ c κs. search needs)
+    (λ c. search needs)
+    (λ c κs. search needs)
+    (λ c. search needs)
+    (λ c κs. search needs)
+    (λ c. search needs)
+    (λ c κs. search needs)
+    (λ c. search needs)
+    (λ c. search (wants-illegal, needs))
+    (λ c. search needs)
+    (λ c. search (wants-bad, needs))
+    (λ c. search needs)
+    (λ c. search (wants-diagnostic, needs))
+    (λ c. search needs)
+    (λ c. search (wants-entry, needs))
+    (λ c. search needs)
+    (λ c. search (wants-directory, needs))
+    (λ c. search needs)
+    (λ c. search needs)
+    (λ c. search (wants-read, needs))
+    (λ c. search needs)
+    (λ c. search needs)
+    (λ c. search (wants-write, needs)))

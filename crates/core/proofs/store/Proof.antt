@@ -1,0 +1,26 @@
+use Rattle.core.proofs.Replying.{stored, stored-bad}
+use borrow.Author.Needs.{needs}
+use Rattle.core.proofs.store.Statement.{statement}
+use Rattle.core.proofs.store.Tie as tie
+
+pub store-spec : {M : Type 1} → statement M
+store-spec =
+    tie.close
+    (tie.spec
+    (λ c κs. search needs)
+    (λ c. search needs)
+    (λ c. search needs)
+    (λ c κs. search needs)
+    (λ c. search needs)
+    (λ c. search (stored-bad, needs))
+    (λ c κs. search needs)
+    (λ c. search needs)
+    (λ c κs. search needs)
+    (λ c. search needs)
+    (λ c κs. search needs)
+    (λ c κs. search needs)
+    (λ c. search needs)
+    (λ c κs. search needs)
+    (λ c. search needs)
+    (λ c. search needs)
+    (λ c. search (stored, needs)))

@@ -1,0 +1,289 @@
+// The covered core of `Slc::pccc`: the questions 16 to 18, and what a command does. What the command says and what the file table holds are
+// told by value.
+use located::Place;
+use model::Answered;
+use model::Done;
+use model::Slc;
+use query::Layout;
+use query::Query;
+use query::Wants;
+use table::Seen;
+ghost use mathlib.Core.Path.{_≡_};
+ghost use mathlib.Core.Bool.{true};
+ghost use mathlib.Core.List.{[]};
+ghost use Prim.Native.Nat.{_≤_};
+ghost use lib.ListN.{length, take, drop};
+ghost use Rattle.model.specs.Frame.{wellFormed};
+ghost use Rattle.model.specs.Pccc.{left, leftBy};
+ghost use Rattle.core.specs.Steps.{goodLogBy, soundBy, Answers, tells, tellsBad, statusStep, popStep, readStep, writeStep, obeyStep, sizeAsked, directoryLength, sizeBytes, directoryStep};
+ghost use Rattle.core.specs.Calls.{respondOf, showOf};
+
+// What the reply memory must hold.
+const ROOM: usize = 514;
+
+// A reply.
+fn answer(slc: Slc, command: &[u8], status: u8, bytes: &[u8], reply: &mut [u8]) -> Done
+    requires { ⌜ wellFormed (now command) ≡ true ⌝ }
+    requires { ⌜ length (now bytes) ≤ 255 ⌝ }
+    requires { ⌜ 514 ≤ length (now reply) ⌝ }
+    ensures { λ r. ⌜ Answers (tells (now (command .entry)) status (now (bytes .entry))) slc [] (now (reply .entry)) r (now (reply .exit)) ⌝ }
+{
+    Done {
+        slc,
+        answered: Answered::Reply(framed::reply_to(command, status, bytes, reply)),
+    }
+}
+
+// Status F0, extended 06.
+fn bad(slc: Slc, command: &[u8], reply: &mut [u8]) -> Done
+    requires { ⌜ wellFormed (now command) ≡ true ⌝ }
+    requires { ⌜ 514 ≤ length (now reply) ⌝ }
+    ensures { λ r. ⌜ Answers (tellsBad (now (command .entry))) slc [] (now (reply .entry)) r (now (reply .exit)) ⌝ }
+{
+    answer(slc, command, 0xF0, &[0x06], reply)
+}
+
+// The diagnostic status.
+fn diagnose(slc: Slc, command: &[u8], reply: &mut [u8]) -> Done
+    requires { ⌜ wellFormed (now command) ≡ true ⌝ }
+    requires { ⌜ 514 ≤ length (now reply) ⌝ }
+    ensures { λ r. ⌜ Answers (statusStep slc (now (command .entry))) slc [] (now (reply .entry)) r (now (reply .exit)) ⌝ }
+{
+    let text = slc.type_text;
+    let d = framed::diagnostic(text, slc.type_len);
+    answer(slc, command, 0, &d, reply)
+}
+
+// The oldest datalog entry, whole, and it leaves the queue; none left: status 10.
+fn pop(slc: Slc, log: &[u8], command: &[u8], reply: &mut [u8]) -> Done
+    requires { ⌜ wellFormed (now command) ≡ true ⌝ }
+    requires { ⌜ goodLogBy slc (now log) ≡ true ⌝ }
+    requires { ⌜ 514 ≤ length (now reply) ⌝ }
+    ensures { λ r. ⌜ Answers (popStep slc (now (log .entry)) (now (command .entry))) slc (now (log .entry)) (now (reply .entry)) r (now (reply .exit)) ⌝ }
+{
+    if slc.log_left == 0 {
+        return answer(slc, command, 0x10, &command[..0], reply);
+    }
+    let text = slc.type_text;
+    let at = slc.log_at;
+    let n = base::word_at(log, at) as usize;
+    let rest = Slc {
+        files: slc.files,
+        type_text: text,
+        type_len: slc.type_len,
+        log_at: at + (2 + n),
+        log_left: slc.log_left - 1,
+    };
+    answer(rest, command, 0, located::part(log, at + 2, n), reply)
+}
+
+// Bytes of a file.
+fn fetch(slc: Slc, s: Seen, q: Query, memory: &[u8], command: &[u8], reply: &mut [u8]) -> Done
+    requires { ⌜ wellFormed (now command) ≡ true ⌝ }
+    requires { ⌜ 514 ≤ length (now reply) ⌝ }
+    ensures { λ r. ⌜ Answers (readStep s q (now (memory .entry)) (now (command .entry))) slc [] (now (reply .entry)) r (now (reply .exit)) ⌝ }
+{
+    let Place::At(at) = located::locate(s, q) else {
+        return bad(slc, command, reply);
+    };
+    answer(
+        slc,
+        command,
+        0,
+        located::part(memory, at, q.size as usize),
+        reply,
+    )
+}
+
+// A masked write to a file.
+fn store(slc: Slc, s: Seen, q: Query, memory: &mut [u8], command: &[u8], reply: &mut [u8]) -> Done
+    requires { ⌜ wellFormed (now command) ≡ true ⌝ }
+    requires { ⌜ 514 ≤ length (now reply) ⌝ }
+    ensures { λ r. ⌜ left r (now (memory .exit)) (now (reply .exit)) ≡ leftBy (writeStep s q (now (memory .entry)) (now (command .entry))) slc (now (memory .entry)) [] (now (reply .entry)) ⌝ }
+{
+    let Place::At(at) = located::locate(s, q) else {
+        return bad(slc, command, reply);
+    };
+    let n = framed::id_len(command);
+    masked::masked_write(
+        memory,
+        at,
+        q.mask,
+        located::part(
+            located::part(command, n + 5, command.len()),
+            q.place,
+            q.size as usize,
+        ),
+    );
+    answer(slc, command, 0, &command[..0], reply)
+}
+
+// What a well-formed command does that doesn't ask for the directory.
+fn obey(
+    slc: Slc,
+    s: Seen,
+    q: Query,
+    memory: &mut [u8],
+    log: &[u8],
+    command: &[u8],
+    reply: &mut [u8],
+) -> Done
+    requires { ⌜ wellFormed (now command) ≡ true ⌝ }
+    requires { ⌜ goodLogBy slc (now log) ≡ true ⌝ }
+    requires { ⌜ 514 ≤ length (now reply) ⌝ }
+    ensures { λ r. ⌜ left r (now (memory .exit)) (now (reply .exit)) ≡ leftBy (obeyStep (q .wants) slc s q (now (memory .entry)) (now (log .entry)) (now (command .entry))) slc (now (memory .entry)) (now (log .entry)) (now (reply .entry)) ⌝ }
+{
+    let wants = q.wants;
+    match wants {
+        Wants::Illegal => answer(slc, command, 0x10, &command[..0], reply),
+        Wants::Bad => bad(slc, command, reply),
+        Wants::Diagnostic => diagnose(slc, command, reply),
+        Wants::Entry => pop(slc, log, command, reply),
+        Wants::Directory => bad(slc, command, reply),
+        Wants::Read => fetch(slc, s, q, memory, command, reply),
+        Wants::Write => store(slc, s, q, memory, command, reply),
+    }
+}
+
+// Question 16, with what the survey found.
+fn sound(slc: Slc, s: Seen, memory: &[u8], log: &[u8]) -> bool
+    ensures { λ r. ⌜ r ≡ soundBy slc s (now (memory .entry)) (now (log .entry)) ⌝ }
+{
+    if !s.sound {
+        return false;
+    }
+    if memory.len() < (s.total as usize) {
+        return false;
+    }
+    let text = slc.type_text;
+    if !soundness::good_text(text, slc.type_len) {
+        return false;
+    }
+    soundness::good_log(log, slc.log_at, slc.log_left)
+}
+
+// The call, where the directory isn't asked for.
+pub fn respond(
+    slc: Slc,
+    s: Seen,
+    q: Query,
+    memory: &mut [u8],
+    log: &[u8],
+    command: &[u8],
+    reply: &mut [u8],
+) -> Done
+    ensures { λ r. ⌜ left r (now (memory .exit)) (now (reply .exit)) ≡ respondOf slc s q (now (memory .entry)) (now (log .entry)) (now (command .entry)) (now (reply .entry)) ⌝ }
+{
+    if !sound(slc, s, memory, log) {
+        return Done {
+            slc,
+            answered: Answered::Refused(16),
+        };
+    }
+    if reply.len() < ROOM {
+        return Done {
+            slc,
+            answered: Answered::Refused(17),
+        };
+    }
+    if !framed::well_formed(command) {
+        return Done {
+            slc,
+            answered: Answered::Refused(18),
+        };
+    }
+    obey(slc, s, q, memory, log, command, reply)
+}
+
+// The directory's length.
+fn directory_length(s: Seen, l: Layout) -> usize
+    ensures { λ r. ⌜ (r ≡ directoryLength s l) × (r ≤ 16711680) ⌝ }
+{
+    (l.first as usize) + (s.next as usize) * (l.row as usize)
+}
+
+// Is the size element asked for, with size 2 to 8?
+fn size_asked(q: Query, l: Layout) -> bool
+    ensures { λ r. ⌜ r ≡ sizeAsked q l ⌝ }
+{
+    if q.element != (l.size_element as u16) {
+        return false;
+    }
+    if q.size < 2 {
+        return false;
+    }
+    q.size <= 8
+}
+
+// The directory's length as a word, zero-padded.
+fn tell_size(slc: Slc, n: usize, size: u8, command: &[u8], reply: &mut [u8]) -> Done
+    requires { ⌜ wellFormed (now command) ≡ true ⌝ }
+    requires { ⌜ (2 ≤ size) × (size ≤ 8) ⌝ }
+    requires { ⌜ 514 ≤ length (now reply) ⌝ }
+    ensures { λ r. ⌜ Answers (tells (now (command .entry)) 0 (sizeBytes n size)) slc [] (now (reply .entry)) r (now (reply .exit)) ⌝ }
+{
+    let k = size as usize;
+    let word = [(n % 256) as u8, (n / 256 % 256) as u8, 0, 0, 0, 0, 0, 0];
+    answer(slc, command, 0, &word[..k], reply)
+}
+
+// What a command for the directory does; `d` begins with the directory.
+fn list(slc: Slc, s: Seen, q: Query, d: &[u8], command: &[u8], reply: &mut [u8]) -> Done
+    requires { ⌜ wellFormed (now command) ≡ true ⌝ }
+    requires { ⌜ 514 ≤ length (now reply) ⌝ }
+    ensures { λ r. ⌜ Answers (directoryStep s q (now (d .entry)) (now (command .entry))) slc [] (now (reply .entry)) r (now (reply .exit)) ⌝ }
+{
+    let l = q.layout;
+    if q.code != l.code {
+        return bad(slc, command, reply);
+    }
+    let n = directory_length(s, l);
+    if size_asked(q, l) {
+        return tell_size(slc, n + (l.constant as usize), q.size, command, reply);
+    }
+    let from = 2 * (q.element as usize);
+    if n < from + (q.size as usize) {
+        return bad(slc, command, reply);
+    }
+    answer(
+        slc,
+        command,
+        0,
+        located::part(d, from, q.size as usize),
+        reply,
+    )
+}
+
+// The call, where the directory is asked for.
+pub fn show(
+    slc: Slc,
+    s: Seen,
+    q: Query,
+    d: [u8; 2793],
+    memory: &mut [u8],
+    log: &[u8],
+    command: &[u8],
+    reply: &mut [u8],
+) -> Done
+    ensures { λ r. ⌜ left r (now (memory .exit)) (now (reply .exit)) ≡ showOf slc s q d (now (memory .entry)) (now (log .entry)) (now (command .entry)) (now (reply .entry)) ⌝ }
+{
+    if !sound(slc, s, memory, log) {
+        return Done {
+            slc,
+            answered: Answered::Refused(16),
+        };
+    }
+    if reply.len() < ROOM {
+        return Done {
+            slc,
+            answered: Answered::Refused(17),
+        };
+    }
+    if !framed::well_formed(command) {
+        return Done {
+            slc,
+            answered: Answered::Refused(18),
+        };
+    }
+    list(slc, s, q, &d, command, reply)
+}

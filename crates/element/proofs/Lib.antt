@@ -1,0 +1,4 @@
+pub mod Tested
+pub mod Places
+pub mod Accesses
+pub mod Right

@@ -1,0 +1,149 @@
+-- The frame of a reply, byte by byte, and its data behind it.
+use Prim.Native.Nat.{ℕ, _+_, _-_, _≤_, _<_}
+use mathlib.Core.Path.{_≡_, refl, sym, ap, subst, _∙_}
+use mathlib.Core.Bool.{Bool, true, false, not, _&&_, cond}
+use mathlib.Core.List.{List, [], _∷_, _++_, append-assoc}
+use native.Mathlib.Nat.{add-zero, zero-add}
+use native.Mathlib.Omega.{arith}
+use borrow.Author.Tests.{not-true, not-false, leb-true, leb-false, le-leb, lt-leb, lt-ltb, le-ltb}
+use lib.Bits.{bitOr}
+use lib.Dec.{leb, ltb}
+use lib.ListN.{length, getD, take, drop, set, length-set, length-append, List·getD-eq-default}
+use lib.Seq.{getD-drop, length-take-le}
+use Rattle.base.specs.Put.{put, Wrote, Puts}
+use Rattle.base.proofs.Put.{put-none, put-one, put-cons, put-more, wrote-length, puts-full, puts-room, and-then}
+use Rattle.model.specs.Frame.{wellFormed, requester, body, cmd, framed}
+use Rattle.model.proofs.Tests.{and-r}
+use Rattle.framed.specs.Reply.{replyTo}
+
+pub first-none : (c : List ℕ) → length c ≡ 0 → (0 ≡ getD c 0 0) × (0 < 256)
+first-none c e = (sym (List·getD-eq-default c 0 (omega arith)), omega arith)
+
+-- ---- 18
+module _ (c : List ℕ) (n : ℕ) (e : n ≡ getD c 0 0) where
+  pub no-id : n ≡ 0 → false ≡ wellFormed c
+  unfolding wellFormed
+  no-id z =
+      let h : getD c 0 0 ≤ 0 = omega arith in
+      rw (le-ltb 0 (getD c 0 0) h) (go (ltb 0 (length c)))
+    where
+      go : (b : Bool) → false ≡ (b && false && leb (getD c 0 0 + 4) (length c))
+      go true = refl
+      go false = refl
+
+  pub with-id : (n ≡ 0 → ⊥) → leb (n + 4) (length c) ≡ wellFormed c
+  unfolding wellFormed
+  with-id ne =
+      let h : 0 < getD c 0 0 = omega arith in
+      rw (lt-ltb 0 (getD c 0 0) h, ← e) (go (leb (n + 4) (length c)) refl)
+    where
+      go : (b : Bool) → leb (n + 4) (length c) ≡ b → b ≡ (ltb 0 (length c) && true && b)
+      go true t = let l : n + 4 ≤ length c = leb-true (n + 4) (length c) t in let k : 0 < length c = omega arith in rw (lt-ltb 0 (length c) k)
+      go false t = go′ (ltb 0 (length c))
+        where
+          go′ : (b : Bool) → false ≡ (b && true && false)
+          go′ true = refl
+          go′ false = refl
+
+  pub long-enough : (ok : Bool) → ok ≡ wellFormed c → not ok ≡ false → n + 4 ≤ length c
+  unfolding wellFormed
+  long-enough ok g h =
+      let w : wellFormed c ≡ true = sym g ∙ not-false ok h in
+      subst (λ (k : ℕ). k + 4 ≤ length c) (sym e) (leb-true (getD c 0 0 + 4) (length c) (and-r (ltb 0 (length c) && ltb 0 (getD c 0 0)) _ w))
+
+-- ---- the frame
+module _ (l : List ℕ) (n a b x y : ℕ) (h : n + 4 ≤ length l) where
+  four : set (set (set (set l n a) (n + 1) b) (n + 2) x) (n + 3) y ≡ put l n (a ∷ b ∷ x ∷ y ∷ [])
+  four =
+      let e₂ : n + 2 ≡ n + 1 + 1 = omega arith in
+      let e₃ : n + 3 ≡ n + 1 + 1 + 1 = omega arith in
+      let l₁ : List ℕ = set l n a in
+      let l₂ : List ℕ = set l₁ (n + 1) b in
+      let l₃ : List ℕ = set l₂ (n + 1 + 1) x in
+      let k₁ : length l₁ ≡ length l = length-set l n a in
+      let k₂ : length l₂ ≡ length l₁ = length-set l₁ (n + 1) b in
+      let k₃ : length l₃ ≡ length l₂ = length-set l₂ (n + 1 + 1) x in
+      rw (e₂, e₃)
+      (put-one l₃ (n + 1 + 1 + 1) y (omega arith)
+      ∙ put-cons l₂ (n + 1 + 1) x (y ∷ []) (omega arith)
+      ∙ put-cons l₁ (n + 1) b (x ∷ y ∷ []) (omega arith)
+      ∙ put-cons l n a (b ∷ x ∷ y ∷ []) (omega arith))
+
+module _ (c l m : List ℕ) (n status r : ℕ) (e : n ≡ getD c 0 0) (hc : n + 4 ≤ length c) (hl : n + 4 ≤ length l) where
+  pub id-length : n ≡ length (take n c)
+  id-length = sym (length-take-le n c (omega arith))
+
+  front : Puts l 0 (take n c) r m → Wrote l 0 (take n c) r m
+  front p = p .room (omega (arith, id-length))
+
+  pub laid-length : Puts l 0 (take n c) r m → length m ≡ length l
+  laid-length p = wrote-length (front p) (omega (arith, id-length))
+
+  bytes : framed c status [] ≡ take n c ++ (bitOr (getD c n 0) 0x40 ∷ status ∷ getD c (n + 2) 0 ∷ getD c (n + 3) 0 ∷ [])
+  unfolding framed requester cmd body
+  bytes = rw (← e, getD-drop n c 0 0, getD-drop n c 2 0, getD-drop n c 3 0, add-zero)
+
+  pub framed-there : Puts l 0 (take n c) r m
+      → Wrote l 0 (framed c status []) (n + 4) (set (set (set (set m n (bitOr (getD c n 0) 0x40)) (n + 1) status) (n + 2) (getD c (n + 2) 0)) (n + 3) (getD c (n + 3) 0))
+  framed-there p =
+      let w : Wrote l 0 (take n c) r m = front p in
+      let q : List ℕ = bitOr (getD c n 0) 0x40 ∷ status ∷ getD c (n + 2) 0 ∷ getD c (n + 3) 0 ∷ [] in
+      let f : set (set (set (set m n (bitOr (getD c n 0) 0x40)) (n + 1) status) (n + 2) (getD c (n + 2) 0)) (n + 3) (getD c (n + 3) 0) ≡ put m n q =
+      four m n (bitOr (getD c n 0) 0x40) status (getD c (n + 2) 0) (getD c (n + 3) 0) (omega (arith, laid-length p)) in
+      let z : 0 + length (take n c) ≡ n = omega (arith, id-length) in
+      let g : put (put l 0 (take n c)) n q ≡ put l 0 (framed c status []) =
+      ap (λ (k : ℕ). put (put l 0 (take n c)) k q) (sym z) ∙ put-more l 0 (take n c) (omega (arith, id-length)) q ∙ ap (put l 0) (sym bytes) in
+      record {
+        end = rw (bytes, length-append) (omega (arith, id-length));
+        now = f ∙ ap (λ (x : List ℕ). put x n q) (w .now) ∙ g;
+      }
+
+-- ---- the whole reply
+framed-more : (c : List ℕ) (status : ℕ) (bs : List ℕ) → framed c status [] ++ bs ≡ framed c status bs
+unfolding framed
+framed-more c status bs = append-assoc (requester c) _ bs
+
+module _ (c bs : List ℕ) (status : ℕ) where
+  pub no-bound : (ok : Bool) → ok ≡ wellFormed c → not ok ≡ true → length (replyTo c status bs) ≤ 259 + length bs
+  unfolding replyTo
+  no-bound ok g h = let w : wellFormed c ≡ false = sym g ∙ not-true ok h in rw w (omega arith)
+
+  module _ (n : ℕ) (e : n ≡ getD c 0 0) (ok : Bool) (g : ok ≡ wellFormed c) (h : not ok ≡ false) where
+    framed-length : (xs : List ℕ) → length (framed c status xs) ≡ n + 4 + length xs
+    unfolding framed requester
+    framed-length xs =
+        let i : length (take (getD c 0 0) c) ≡ getD c 0 0 = length-take-le (getD c 0 0) c (omega (arith, long-enough c n e ok g h)) in
+        rw length-append (omega (arith, i))
+
+    reply-length : length (replyTo c status bs) ≡ n + 4 + length bs
+    unfolding replyTo
+    reply-length = let w : wellFormed c ≡ true = sym g ∙ not-false ok h in rw w (framed-length bs)
+
+    pub reply-bound : n < 256 → length (replyTo c status bs) ≤ 259 + length bs
+    reply-bound k = omega (arith, reply-length)
+
+module _ (c l bs : List ℕ) (status : ℕ) where
+  pub no-reply : (ok : Bool) → ok ≡ wellFormed c → not ok ≡ true → Puts l 0 (replyTo c status bs) 0 l
+  unfolding replyTo
+  no-reply ok g h =
+      let w : wellFormed c ≡ false = sym g ∙ not-true ok h in
+      rw w (record { room = λ _. record { end = refl; now = sym (put-none l 0) }; full = λ k. absurd (omega arith) })
+
+  module _ (n : ℕ) (e : n ≡ getD c 0 0) (ok : Bool) (g : ok ≡ wellFormed c) (h : not ok ≡ false) where
+    pub reply-short : length l < n + 4 → Puts l 0 (replyTo c status bs) 0 l
+    reply-short k = puts-full (n + 4 + length bs) (reply-length c bs status n e ok g h) (omega arith)
+
+    pub reply-cut : n + 4 ≤ length l → length l - (n + 4) < length bs → Puts l 0 (replyTo c status bs) 0 l
+    reply-cut k j = puts-full (n + 4 + length bs) (reply-length c bs status n e ok g h) (omega arith)
+
+    pub reply-whole : (m k : List ℕ) (a r : ℕ) → n + 4 ≤ length l → length bs ≤ length l - (n + 4) → Wrote l 0 (framed c status []) a m → Puts m a bs r k
+        → Puts l 0 (replyTo c status bs) r k
+    unfolding replyTo
+    reply-whole m k a r hl hb f p =
+        let w : wellFormed c ≡ true = sym g ∙ not-false ok h in
+        let i : length (framed c status []) ≡ n + 4 + 0 = framed-length c bs status n e ok g h [] in
+        let x : 0 + length (framed c status []) ≤ length l = omega arith in
+        let lm : length m ≡ length l = wrote-length f x in
+        let v : Wrote m a bs r k = p .room (omega (arith, f .end)) in
+        let both : Wrote l 0 (framed c status bs) r k = subst (λ (s : List ℕ). Wrote l 0 s r k) (framed-more c status bs) (and-then f v x) in
+        rw w (puts-room (n + 4 + length bs) (framed-length c bs status n e ok g h bs) (omega arith) both)

@@ -1,0 +1,28 @@
+use Rattle.framed.proofs.Frames.{id-length, laid-length, framed-there}
+use native.Mathlib.Omega.{arith}
+use lib.ListN.{length-set}
+use borrow.Author.Needs.{needs}
+use Rattle.framed.proofs.frame.Statement.{statement}
+use Rattle.framed.proofs.frame.Tie as tie
+
+pub frame-spec : {M : Type 1} → statement M
+frame-spec =
+    tie.close
+    (tie.spec
+    (λ c. search (id-length, needs))
+    (λ c κs. search needs)
+    (λ c. search needs)
+    (λ c. search needs)
+    (λ c. search needs)
+    (λ c. simp length-set (search (laid-length, needs)))
+    (λ c. search needs)
+    (λ c. search needs)
+    (λ c. search needs)
+    (λ c. simp length-set (search (laid-length, needs)))
+    (λ c. search needs)
+    (λ c. search needs)
+    (λ c. search needs)
+    (λ c. simp length-set (search (laid-length, needs)))
+    (λ c. search needs)
+    (λ c. search needs)
+    (λ c. search (framed-there, needs)))

@@ -1,0 +1,4 @@
+pub mod Functions
+pub mod Behind
+pub mod Places
+pub mod Asking

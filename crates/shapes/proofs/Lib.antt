@@ -1,0 +1,4 @@
+pub mod Asking
+pub mod Choosing
+pub mod Bridging
+pub mod Laying

@@ -1,0 +1,188 @@
+// The lists in a line that builds a processor: FILES and LOG of oracle/PROTOCOL.md, each read in one pass.
+ghost use mathlib.Core.Path.{_≡_};
+ghost use Prim.Native.Nat.{_≤_, _<_};
+ghost use lib.ListN.{length, take};
+use decimal::Decimal;
+use text::Byte;
+use text::Bytes;
+
+// Which shape is missing, if any.
+pub enum Shape {
+    Good,
+    NoHex,
+    NoNumber,
+}
+
+// How many entries a list has, and its shape.
+pub struct List {
+    pub n: usize,
+    pub shape: Shape,
+}
+
+// The end of the part that starts at a place: the next comma, or the end.
+fn part_end(s: &[u8], at: usize) -> usize
+    requires { ⌜ at ≤ length (now s) ⌝ }
+    ensures { λ r. ⌜ (at ≤ r) × (r ≤ length (now (s .entry))) ⌝ }
+{
+    let mut i = at;
+    while i < s.len() {
+        if s[i] == b',' {
+            return i;
+        }
+        i += 1;
+    }
+    i
+}
+
+// A file: number, code, elements. What is above 32 bits is held to 4,294,967,295, which is refused alike.
+struct Wanted {
+    row: [u32; 3],
+    shape: Shape,
+}
+
+fn held(n: u64) -> u32 {
+    if n < 4294967295 {
+        return n as u32;
+    }
+    4294967295
+}
+
+fn no_file(shape: Shape) -> Wanted {
+    Wanted {
+        row: [0, 0, 0],
+        shape,
+    }
+}
+
+// CODE:number:elements, cut at its first two colons.
+fn file(s: &[u8]) -> Wanted {
+    let Byte::Is(code) = text::code(text::part(s, b':', 0)) else {
+        return no_file(Shape::NoHex);
+    };
+    let Decimal::Is(number) = decimal::number(text::part(s, b':', 1)) else {
+        return no_file(Shape::NoNumber);
+    };
+    let Decimal::Is(elements) = decimal::number(text::part(s, b':', 2)) else {
+        return no_file(Shape::NoNumber);
+    };
+    if 3 < text::parts(s, b':') {
+        return no_file(Shape::NoNumber);
+    }
+    Wanted {
+        row: [held(number), code as u32, held(elements)],
+        shape: Shape::Good,
+    }
+}
+
+// A file into its row; rows that aren't there are left out.
+fn keep(out: &mut [[u32; 3]], i: usize, f: [u32; 3]) {
+    if i < out.len() {
+        out[i] = f;
+    }
+}
+
+// The files of a field. Those behind the last row are only looked at: 256 numbers are all there are, so no list is accepted that has more.
+pub fn files(s: &[u8], out: &mut [[u32; 3]]) -> List {
+    if text::is(s, b"-") {
+        return List {
+            n: 0,
+            shape: Shape::Good,
+        };
+    }
+    let mut at = 0;
+    let mut n = 0;
+    while at <= s.len() {
+        let e = part_end(s, at);
+        let f = file(&s[at..e]);
+        let shape = f.shape;
+        if let Shape::NoHex = shape {
+            return List {
+                n,
+                shape: Shape::NoHex,
+            };
+        }
+        if let Shape::NoNumber = shape {
+            return List {
+                n,
+                shape: Shape::NoNumber,
+            };
+        }
+        let row = f.row;
+        keep(out, n, row);
+        n += 1;
+        at = e + 1;
+    }
+    List {
+        n,
+        shape: Shape::Good,
+    }
+}
+
+// The bytes of a datalog entry: `.` for none, else digits.
+fn entry(s: &[u8], space: &mut [u8]) -> Bytes
+    ensures { λ r. ⌜ (r .n ≤ length (now (space .exit))) × (r .n ≡ length (take (r .n) (now (space .exit)))) ⌝ }
+{
+    if text::is(s, b".") {
+        return text::unhex(b"-", space);
+    }
+    if text::is(s, b"-") {
+        return text::unhex(b"", space);
+    }
+    text::unhex(s, space)
+}
+
+// An entry as a datalog's memory has it: a length word and the bytes. The answer is the place behind it.
+fn lay(out: &mut [u8], at: usize, bytes: &[u8]) -> usize {
+    let a = base::put_number(out, at, 2, bytes.len() as u64);
+    base::put_all(out, a, bytes)
+}
+
+fn most(a: usize, b: usize) -> usize
+    ensures { λ r. ⌜ (a ≤ r) × (b ≤ r) ⌝ }
+{
+    if a < b {
+        return b;
+    }
+    a
+}
+
+// More than there may be where an entry is too long: both are question 15.
+fn counted(n: usize, longest: usize) -> usize {
+    if 255 < longest {
+        return most(n, 65);
+    }
+    n
+}
+
+// The entries of a field, end to end. `space` is for the bytes of each.
+pub fn log(s: &[u8], space: &mut [u8], out: &mut [u8]) -> List {
+    if text::is(s, b"-") {
+        return List {
+            n: 0,
+            shape: Shape::Good,
+        };
+    }
+    let mut at = 0;
+    let mut n = 0;
+    let mut place = 0;
+    let mut longest = 0;
+    while at <= s.len() {
+        let e = part_end(s, at);
+        let got = entry(&s[at..e], space);
+        let k = got.n;
+        if !got.good {
+            return List {
+                n,
+                shape: Shape::NoHex,
+            };
+        }
+        place = lay(out, place, &space[..k]);
+        longest = most(longest, k);
+        n += 1;
+        at = e + 1;
+    }
+    List {
+        n: counted(n, longest),
+        shape: Shape::Good,
+    }
+}
