@@ -1,6 +1,9 @@
 // The calls of the line protocol that ask the simulated processor (module 6), one file each. Its plain data stands in `store`.
 mod call_cmd;
 mod call_directory;
+mod call_get;
+mod call_set;
+mod spot;
 
 use say::Place;
 use say::Told;
@@ -18,6 +21,12 @@ pub fn answer(
 ) -> Told {
     if text::is(call, b"cmd") {
         return Told::Answered(call_cmd::answer(line, room, space, store, out, p));
+    }
+    if text::is(call, b"get") {
+        return Told::Answered(call_get::answer(line, room, space, store, out, p));
+    }
+    if text::is(call, b"set") {
+        return Told::Answered(call_set::answer(line, space, store, out, p));
     }
     if text::is(call, b"directory") {
         return Told::Answered(call_directory::answer(line, store, out, p));

@@ -2,8 +2,7 @@
 ghost use mathlib.Core.Path.{_≡_};
 ghost use Prim.Native.Nat.{_≤_};
 ghost use lib.ListN.{length, take};
-use build::Judged;
-use model::Built;
+use model::FileRecord;
 use model::Made;
 use say::Place;
 use sim_lists::Shape;
@@ -97,28 +96,29 @@ fn built(
     out: &mut [u8],
     p: Place,
 ) -> Place {
-    let j = build::judge(files, plc_type, log, count, 256, 65535);
-    lay(files, j.records, store);
+    let made = raised(plc_type, files, log, count, store);
     base::put_all(store, sim_store::LOG, log);
-    let b = finished(j, plc_type, count, store);
-    let made = b.made;
     match made {
         Made::Refused(n) => say::refused(out, p, n),
         Made::Ready => say::plain(out, p, b"ok\n"),
     }
 }
 
-fn lay(files: &[[u32; 3]], n: usize, store: &mut [u8]) {
-    let mut i = 0;
-    while i < base::least(n, 256) {
-        sim_store::keep_record(store, i as u16, build::record_of(files, i));
-        i += 1;
-    }
+fn raised(plc_type: &[u8], files: &[[u32; 3]], log: &[u8], count: usize, store: &mut [u8]) -> Made {
+    let m = text::within(65535, store);
+    let r = bridges::new_on(files, plc_type, log, count, &mut store[..m]);
+    let rows = r.rows;
+    let b = r.built;
+    keep_rows(rows, store);
+    sim_store::keep_slc(store, b.slc);
+    b.made
 }
 
-fn finished(j: Judged, plc_type: &[u8], count: usize, store: &mut [u8]) -> Built {
-    let m = text::within(65535, store);
-    let b = build::finish(j, plc_type, count, &mut store[..m]);
-    sim_store::keep_slc(store, b.slc);
-    b
+fn keep_rows(rows: [FileRecord; 256], store: &mut [u8]) {
+    let mut i = 0;
+    while i < 256 {
+        let r = rows[i];
+        sim_store::keep_record(store, i as u16, r);
+        i += 1;
+    }
 }

@@ -62,7 +62,7 @@ fn follows(next: u16, total: u32, r: FileRecord) -> bool
 }
 
 // What is seen before the first of n records of a table that holds so many.
-fn begin(n: usize, held: usize, number: u16) -> Pass
+pub fn begin(n: usize, held: usize, number: u16) -> Pass
     ensures { λ r. ⌜ r ≡ begunOf n held number ⌝ }
 {
     if n == 0 {
@@ -96,7 +96,7 @@ fn begin(n: usize, held: usize, number: u16) -> Pass
 }
 
 // What is seen with one record more. Each path makes a new struct: one that is handed on would go through memory.
-fn passed(s: Pass, r: FileRecord) -> Pass
+pub fn passed(s: Pass, r: FileRecord) -> Pass
     ensures { λ u. ⌜ u ≡ passedOf s r ⌝ }
 {
     if !follows(s.next, s.total, r) {
@@ -151,7 +151,7 @@ fn lost(number: u16) -> Seen
 }
 
 // What the whole pass tells.
-fn conclude(s: Pass) -> Seen
+pub fn conclude(s: Pass) -> Seen
     ensures { λ r. ⌜ r ≡ concludedOf s ⌝ }
 {
     if 256 < s.next {

@@ -11,7 +11,7 @@ use std::fmt::Write as _;
 
 /// Why the Rust cannot be asked, if that is what an answer says.
 pub fn not_asked(answer: &[u8]) -> Option<&'static str> {
-    const REASONS: [&str; 5] = ["type", "utf8", "nojson", "utf8 datalog", "lost"];
+    const REASONS: [&str; 6] = ["type", "utf8", "nojson", "utf8 datalog", "lost", "spoilt"];
     match answer.strip_prefix(b"err ") {
         Some(why) => REASONS.into_iter().find(|r| r.as_bytes() == why),
         None => (answer == b"ok f:null").then_some("f:null"),
@@ -201,6 +201,10 @@ impl Oracle {
                 Ok(format!("ok {h:016X} {}", access::datalog(slc).len()))
             }
             Call::Directory => ok(&access::directory(self.slc()?)),
+            Call::Spoil => {
+                self.processor = Processor::Lost;
+                Err("err spoilt".into())
+            }
             Call::Room(room, call) => self.in_room(room, *call),
         }
     }

@@ -95,6 +95,7 @@ pub enum Call {
     Dump,
     Hash,
     Directory,
+    Spoil,
     /// A call whose output has so many bytes, or rows.
     Room(u64, Box<Call>),
 }
@@ -126,6 +127,16 @@ const ELEMENT_KINDS: &[(&str, usize)] = &[
     ("text", 1),
     ("words", 1),
     ("field", 2),
+];
+
+const SPOIL_KINDS: &[(&str, usize)] = &[
+    ("files", 1),
+    ("typelen", 1),
+    ("logat", 1),
+    ("logleft", 1),
+    ("record", 5),
+    ("text", 2),
+    ("log", 2),
 ];
 
 type Reader = fn(&mut Fields) -> Result<Call, Why>;
@@ -166,6 +177,7 @@ pub const CALLS: &[(&str, Count, Reader)] = &[
     ("dump", Of(1), |_| Ok(Call::Dump)),
     ("hash", Of(1), |_| Ok(Call::Hash)),
     ("directory", Of(1), |_| Ok(Call::Directory)),
+    ("spoil", Kind(1, SPOIL_KINDS), |f| f.spoil()),
     ("room", Rest(3), |f| Ok(Call::Room(f.number()?, Box::new(f.call()?)))),
 ];
 
@@ -296,6 +308,16 @@ impl<'a> Fields<'a> {
             b"field" => ElementValue::Field(self.bytes()?, self.signed()?),
             _ => return Err(Why::Kind),
         })
+    }
+    /// A number; or a byte in the middle or at the end of what is there, the rest as it is.
+    fn spoil(&mut self) -> Result<Call, Why> {
+        let at = match self.next() {
+            b"record" => 2,
+            b"text" | b"log" => 1,
+            _ => return self.number().map(|_| Call::Spoil),
+        };
+        self.left = &self.left[at..];
+        self.code().map(|_| Call::Spoil)
     }
     /// `-`, or CODE:number:elements joined by `,`. A missing part is an empty one.
     fn files(&mut self) -> Result<Vec<File>, Why> {

@@ -2,8 +2,6 @@ use Rattle.table.specs.Survey.{lostOf}
 use mathlib.Core.Path.{refl}
 use Rattle.table.proofs.lost.Statement.{statement}
 use Rattle.table.proofs.lost.Tie as tie
-use Rattle.table.proofs.lost.Reads as reads
-use Rattle.table.proofs.lost.Lts as lts
 
 returns : tie.Need-returns
 unfolding lostOf

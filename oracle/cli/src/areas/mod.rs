@@ -3,6 +3,7 @@ mod address;
 mod codec;
 mod directory;
 mod file_type;
+mod processor;
 mod reply;
 mod request;
 mod syntax;
@@ -24,6 +25,7 @@ const AREAS: &[Area] = &[
     Area { name: "file_type", calls: &["ft", "ftname", "simft"], lines: file_type::lines },
     Area { name: "address", calls: &["tag"], lines: address::lines },
     Area { name: "request", calls: &["read", "write", "proc", "datalogreq", "dirsizereq", "dirreadreq", "room"], lines: request::lines },
+    Area { name: "processor", calls: &["sim", "cmd", "get", "set", "fill", "dump", "hash", "directory"], lines: processor::lines },
     Area { name: "codec", calls: &["swap", "pairs", "ascii", "string", "enc", "dec"], lines: codec::lines },
     Area { name: "reply", calls: &["status", "errtext", "datalogparse"], lines: reply::lines },
     Area { name: "directory", calls: &["sys0", "dirsize", "dir"], lines: directory::lines },

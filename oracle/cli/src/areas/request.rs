@@ -157,7 +157,10 @@ fn in_rooms() -> Vec<String> {
     }
     // a text that is read needs 82 bytes
     for room in [0, 3, 81, 82] {
-        list.push(format!("room {room} dec 8D 030062610063{}", "00".repeat(78)));
+        list.push(format!(
+            "room {room} dec 8D 030062610063{}",
+            "00".repeat(78)
+        ));
         list.push(format!("room {room} dec 8D 0300"));
         list.push(format!("room {room} dec 8E 6261"));
         list.push(format!("room {room} dec 89 6261"));

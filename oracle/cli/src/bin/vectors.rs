@@ -16,6 +16,21 @@ const SHORT: usize = 999;
 /// So many longer ones, up to this size, are taken as well.
 const LONGER: (usize, usize) = (2, 3_000);
 
+/// Bytes of runs on processors, each from its `sim` on, and of one of them.
+const RUNS: usize = 30_000;
+const RUN: usize = 4_000;
+/// Calls whose answers depend on the lines before: these are taken by whole runs.
+const STATEFUL: &[&[u8]] = &[
+    b"sim",
+    b"cmd",
+    b"get",
+    b"set",
+    b"fill",
+    b"dump",
+    b"hash",
+    b"directory",
+];
+
 const CODES: &[&[u8]] = &[
     b"82", b"83", b"84", b"85", b"86", b"87", b"88", b"89", b"8A", b"8D", b"8E", b"91", b"92",
     b"93", b"94",
@@ -53,6 +68,44 @@ fn group(line: &[u8], answer: &[u8]) -> (Group, Vec<u8>) {
     ((name, sort), part)
 }
 
+/// Is the line's call, also behind `room`, one of a processor?
+fn stateful(line: &[u8]) -> bool {
+    let fields = split(line);
+    let word = match fields[0] {
+        b"room" => fields.get(2).copied().unwrap_or_default(),
+        word => word,
+    };
+    STATEFUL.contains(&word)
+}
+
+/// Runs on processors that the Rust can be asked about whole.
+fn runs(seed: u64, n: usize) -> Vec<Vec<u8>> {
+    let lines = areas::lines(seed, &["processor".to_string()]).expect("an area");
+    let mut all: Vec<(Vec<Vec<u8>>, usize)> = Vec::new();
+    let mut oracle = Oracle::new(false);
+    for line in lines.take(n).filter(|l| stateful(l)) {
+        let answer = oracle.line(&line);
+        if line.starts_with(b"sim ") || all.is_empty() {
+            all.push((Vec::new(), 0));
+        }
+        let (run, size) = all.last_mut().expect("a run");
+        *size += line.len() + answer.len() + 2;
+        if not_asked(&answer).is_some() {
+            *size = RUN + 1;
+        }
+        run.push(line);
+    }
+    let mut used = 0;
+    let mut taken = Vec::new();
+    for (run, size) in all.into_iter().filter(|r| r.1 <= RUN) {
+        if used + size <= RUNS {
+            used += size;
+            taken.extend(run);
+        }
+    }
+    taken
+}
+
 /// How many lines of a group are taken at most, after one of each part.
 fn most((call, answer): &Group) -> usize {
     match (*call, answer.starts_with(b"error ")) {
@@ -77,7 +130,11 @@ fn sample(seed: u64, n: usize, room: usize) -> Vec<Vec<u8>> {
     for (at, line) in lines.take(n).enumerate() {
         let answer = oracle.line(&line);
         let size = line.len() + answer.len() + 2;
-        if not_asked(&answer).is_some() || size > LONGER.1 || !met.insert(line.clone()) {
+        if not_asked(&answer).is_some()
+            || stateful(&line)
+            || size > LONGER.1
+            || !met.insert(line.clone())
+        {
             continue;
         }
         if size > SHORT {
@@ -176,9 +233,9 @@ fn run(dir: &str, hand: &str, seed: u64, n: usize) -> Result<String, String> {
     let head = b"# Lines of oracle/generate with the answers of the oracle";
     put(head, head);
     let room: usize = worked.iter().map(|(r, a)| r.len() + a.len() + 2).sum();
-    let room = ROOM.saturating_sub(room + 2 * (head.len() + 1));
+    let room = ROOM.saturating_sub(room + RUNS + 2 * (head.len() + 1));
     let mut generated = 0;
-    for line in sample(seed, n, room) {
+    for line in sample(seed, n, room).into_iter().chain(runs(seed, n)) {
         // asked again, since an answer may depend on the lines before
         let answer = oracle.line(&line);
         if not_asked(&answer).is_none() {
