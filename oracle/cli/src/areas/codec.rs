@@ -4,7 +4,7 @@ use crate::hex::hex;
 use crate::rng::Rng;
 
 /// Code and element size: the simulator's twelve, then the three that it does not know.
-const TYPES: &[(u8, usize)] = &[
+pub(super) const TYPES: &[(u8, usize)] = &[
     (0x82, 2),
     (0x83, 2),
     (0x84, 2),

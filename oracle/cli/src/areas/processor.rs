@@ -4,20 +4,7 @@ use crate::hex::hex;
 use crate::rng::Rng;
 
 /// Type codes of the simulator with their element sizes.
-const TYPES: &[(u8, usize)] = &[
-    (0x82, 2),
-    (0x83, 2),
-    (0x84, 2),
-    (0x85, 2),
-    (0x86, 6),
-    (0x87, 6),
-    (0x88, 6),
-    (0x89, 2),
-    (0x8A, 4),
-    (0x8D, 84),
-    (0x8E, 2),
-    (0x91, 4),
-];
+const TYPES: &[(u8, usize)] = super::codec::TYPES.split_at(12).0;
 /// The default files: type code and elements, by number.
 const DEFAULTS: &[(u8, usize)] = &[
     (0x82, 8),
