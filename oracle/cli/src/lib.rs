@@ -3,4 +3,6 @@ pub mod answer;
 pub mod areas;
 pub mod hex;
 pub mod protocol;
+pub mod refusals;
+pub mod report;
 pub mod rng;

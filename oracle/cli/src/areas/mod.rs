@@ -6,6 +6,7 @@ mod file_type;
 mod processor;
 mod reply;
 mod request;
+mod room;
 mod syntax;
 
 use crate::hex::hex;
@@ -29,7 +30,11 @@ const AREAS: &[Area] = &[
     Area { name: "codec", calls: &["swap", "pairs", "ascii", "string", "enc", "dec"], lines: codec::lines },
     Area { name: "reply", calls: &["status", "errtext", "datalogparse"], lines: reply::lines },
     Area { name: "directory", calls: &["sys0", "dirsize", "dir"], lines: directory::lines },
+    Area { name: ROOM, calls: &["room", "datalogreq", "hash", "directory"], lines: room::lines },
 ];
+
+/// The area of calls behind `room`.
+const ROOM: &str = "room";
 
 /// The area of damaged lines. It damages what the other areas write, so a call that is not yet ported is never in it.
 const SYNTAX: &str = "syntax";
@@ -37,6 +42,12 @@ const SYNTAX: &str = "syntax";
 /// The names of all areas.
 pub fn names() -> Vec<&'static str> {
     AREAS.iter().map(|a| a.name).chain([SYNTAX]).collect()
+}
+
+/// The areas that the stored sample is made from: `room` writes lines of the others again.
+pub fn sampled() -> Vec<String> {
+    let others = names().into_iter().filter(|&name| name != ROOM);
+    others.map(String::from).collect()
 }
 
 /// One line of each area in turn; all areas where none is named. None for an unknown name.
@@ -57,7 +68,12 @@ pub fn lines(seed: u64, chosen: &[String]) -> Option<Lines> {
         } else {
             areas
         };
-        let calls = damaged.iter().flat_map(|a| a.calls).copied().collect();
+        let mut calls: Vec<&str> = Vec::new();
+        for call in damaged.iter().flat_map(|a| a.calls) {
+            if !calls.contains(call) {
+                calls.push(call);
+            }
+        }
         let whole = damaged
             .iter()
             .map(|a| (a.lines)(Rng::new(!seed, a.name)))

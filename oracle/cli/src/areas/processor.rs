@@ -54,7 +54,11 @@ impl Layout {
     }
 }
 
+/// The stored sample has its runs from so many lines; behind them long texts come more often.
+const SAMPLED: usize = 60_000;
+
 pub fn lines(mut rng: Rng) -> Lines {
+    let mut written = 0;
     let mut layout = Layout {
         files: Vec::new(),
         family: FAMILIES[0].1,
@@ -77,7 +81,12 @@ pub fn lines(mut rng: Rng) -> Lines {
             return line.into_bytes();
         }
         left -= 1;
-        step(&mut rng, &layout).into_bytes()
+        written += 1;
+        let text = match written > SAMPLED && rng.once_in(80) {
+            true => long_text(&mut rng, &layout),
+            false => None,
+        };
+        text.unwrap_or_else(|| step(&mut rng, &layout)).into_bytes()
     });
     Box::new(first.chain(rest))
 }
@@ -279,6 +288,23 @@ fn step(rng: &mut Rng, l: &Layout) -> String {
         37 => "directory".to_string(),
         _ => "hash".to_string(),
     }
+}
+
+/// A text around 82 bytes on an ST element, where there is one.
+fn long_text(rng: &mut Rng, l: &Layout) -> Option<String> {
+    let st: Vec<File> = l
+        .files
+        .iter()
+        .copied()
+        .filter(|f| f.code == 0x8D && f.elements > 0)
+        .collect();
+    if st.is_empty() {
+        return None;
+    }
+    let f = rng.pick(&st);
+    let text = vec![b'a'; 80 + rng.below(6)];
+    let element = rng.below(f.elements);
+    Some(format!("set 8D {} {element} text {}", f.number, hex(&text)))
 }
 
 fn some_file(rng: &mut Rng, l: &Layout) -> File {

@@ -1,16 +1,15 @@
-//! `compare SEED N [AREA..]`: generated lines, answered by the oracle and by our console, compared line by line.
+//! `compare [--report FILE] [SEED [N [AREA..]]]`: generated lines, answered by the oracle and by our console, compared
+//! line by line. Without SEED a fresh one, without N a million lines; the report goes to standard output and to FILE.
 //!
 //! The console is the shell command in CONSOLE. Each batch of lines goes to fresh programs, so a processor does
 //! not outlive its batch on either side. Exit status: 0 no difference, 1 some, 2 not run.
-use oracle::answer::not_asked;
 use oracle::areas;
-use oracle::protocol::call;
-use std::collections::BTreeMap;
+use oracle::report::Report;
 use std::io::{Read, Write};
 use std::process::{Command, ExitCode, Stdio};
 
 const BATCH: usize = 100_000;
-const SHOWN: usize = 10;
+const LINES: usize = 1_000_000;
 
 /// What a program wrote and how it ended.
 struct Answers {
@@ -39,155 +38,6 @@ fn answers(mut program: Command, input: &[u8]) -> std::io::Result<Answers> {
     }
     let failed = (!status.success()).then(|| status.to_string());
     Ok(Answers { lines, failed })
-}
-
-/// Counts of one call. Refusals, errors and what the Rust cannot be asked are counted by their names.
-#[derive(Default)]
-struct Row {
-    lines: usize,
-    ok: usize,
-    refused: BTreeMap<u32, usize>,
-    error: BTreeMap<String, usize>,
-    not_asked: BTreeMap<&'static str, usize>,
-    differences: usize,
-}
-
-impl Row {
-    fn add(&mut self, other: &Row) {
-        self.lines += other.lines;
-        self.ok += other.ok;
-        self.differences += other.differences;
-        for (k, v) in &other.refused {
-            *self.refused.entry(*k).or_default() += v;
-        }
-        for (k, v) in &other.error {
-            *self.error.entry(k.clone()).or_default() += v;
-        }
-        for (k, v) in &other.not_asked {
-            *self.not_asked.entry(k).or_default() += v;
-        }
-    }
-    fn cells(&self, name: &str) -> [String; 7] {
-        fn list<K: ToString>(counts: &BTreeMap<K, usize>) -> String {
-            if counts.is_empty() {
-                return "-".into();
-            }
-            let items = counts
-                .iter()
-                .map(|(k, v)| format!("{}:{v}", k.to_string().replace(' ', "-")));
-            items.collect::<Vec<_>>().join(" ")
-        }
-        [
-            name.into(),
-            self.lines.to_string(),
-            self.ok.to_string(),
-            list(&self.refused),
-            list(&self.error),
-            list(&self.not_asked),
-            self.differences.to_string(),
-        ]
-    }
-}
-
-/// Whether an answer has the form `ok ..` or `refused N`.
-fn is_answer(ours: &[u8]) -> bool {
-    let number = |n: &[u8]| !n.is_empty() && n.iter().all(u8::is_ascii_digit);
-    ours == b"ok" || ours.starts_with(b"ok ") || ours.strip_prefix(b"refused ").is_some_and(number)
-}
-
-/// The row in which a line is counted.
-fn row_name(line: &[u8]) -> &'static str {
-    if line.is_empty() || line[0] == b'#' {
-        return "(echo)";
-    }
-    let word = line.split(|&b| b == b' ').next().unwrap_or_default();
-    call(word).map_or("(no call)", |c| c.0)
-}
-
-#[derive(Default)]
-struct Report {
-    rows: BTreeMap<&'static str, Row>,
-    shown: Vec<String>,
-    failures: Vec<String>,
-}
-
-impl Report {
-    fn line(&mut self, at: usize, line: &[u8], oracle: &[u8], ours: &[u8]) {
-        let row = self.rows.entry(row_name(line)).or_default();
-        row.lines += 1;
-        let text = String::from_utf8_lossy(oracle);
-        let right = if let Some(why) = not_asked(oracle) {
-            *row.not_asked.entry(why).or_default() += 1;
-            is_answer(ours)
-        } else {
-            if let Some(why) = text.strip_prefix("error ") {
-                *row.error.entry(why.into()).or_default() += 1;
-            } else if let Some(n) = text.strip_prefix("refused ") {
-                *row.refused.entry(n.parse().unwrap_or(0)).or_default() += 1;
-            } else {
-                row.ok += 1;
-            }
-            oracle == ours
-        };
-        if !right {
-            row.differences += 1;
-            if self.shown.len() < SHOWN {
-                self.shown.push(format!(
-                    "line {at}: {}\n  oracle: {}\n  ours:   {}",
-                    cut(line),
-                    cut(oracle),
-                    cut(ours)
-                ));
-            }
-        }
-    }
-
-    fn differences(&self) -> usize {
-        self.rows.values().map(|r| r.differences).sum()
-    }
-
-    fn print(&self) {
-        let mut all = Row::default();
-        self.rows.values().for_each(|r| all.add(r));
-        let head = [
-            "call",
-            "lines",
-            "ok",
-            "refused",
-            "error",
-            "Rust not asked",
-            "differences",
-        ];
-        let mut table = vec![head.map(String::from)];
-        table.extend(self.rows.iter().map(|(name, r)| r.cells(name)));
-        table.push(all.cells("all"));
-        let widths: Vec<usize> = (0..head.len())
-            .map(|c| table.iter().map(|r| r[c].len()).max().unwrap_or(0))
-            .collect();
-        for row in &table {
-            let cells: Vec<String> = row
-                .iter()
-                .zip(&widths)
-                .map(|(cell, w)| format!("{cell:w$}"))
-                .collect();
-            println!("{}", cells.join("  ").trim_end());
-        }
-        for (n, d) in self.shown.iter().enumerate() {
-            println!("difference {}, {d}", n + 1);
-        }
-        for f in &self.failures {
-            println!("{f}");
-        }
-    }
-}
-
-/// At most 200 characters, bytes that don't print spelled out.
-fn cut(text: &[u8]) -> String {
-    let shown = text.escape_ascii().to_string();
-    if shown.len() <= 200 {
-        return shown;
-    }
-    format!("{}.. ({} bytes)", &shown[..200], text.len())
 }
 
 fn run(seed: u64, n: usize, areas: &[String], console: &str) -> Result<Report, String> {
@@ -248,31 +98,61 @@ fn run(seed: u64, n: usize, areas: &[String], console: &str) -> Result<Report, S
     }
 }
 
+/// A seed that no one has chosen.
+fn fresh() -> Result<u64, String> {
+    let mut bytes = [0; 4];
+    let mut random = std::fs::File::open("/dev/urandom").map_err(|e| e.to_string())?;
+    random.read_exact(&mut bytes).map_err(|e| e.to_string())?;
+    Ok(u32::from_le_bytes(bytes).into())
+}
+
+/// Compares, writes the report, and says whether all was well.
+fn compare(args: &[String], console: &str) -> Result<bool, String> {
+    const USAGE: &str = "usage: CONSOLE=COMMAND compare [--report FILE] [SEED [N [AREA..]]]";
+    let (file, args) = match args {
+        [flag, file, rest @ ..] if flag == "--report" => (Some(file), rest),
+        all => (None, all),
+    };
+    let seed = args
+        .first()
+        .map_or_else(fresh, |s| s.parse().map_err(|_| USAGE.into()));
+    let n = args
+        .get(1)
+        .map_or(Ok(LINES), |n| n.parse().map_err(|_| USAGE));
+    let (seed, n) = (seed?, n?);
+    if console.is_empty() {
+        return Err(USAGE.into());
+    }
+    let save = |text: &str| match file {
+        Some(file) => std::fs::write(file, text).map_err(|e| format!("{file}: {e}")),
+        None => Ok(()),
+    };
+    save("")?; // a file that can't be written shows before the work
+    let areas = args.get(2..).unwrap_or_default();
+    eprintln!("compare: seed {seed}");
+    let report = run(seed, n, areas, console)?;
+    let of = match areas {
+        [] => "all areas".to_string(),
+        some => some.join(" "),
+    };
+    let text = report.text(
+        &format!("{n} lines of seed {seed} ({of})"),
+        areas.is_empty(),
+    );
+    print!("{text}");
+    save(&text)?;
+    Ok(report.good())
+}
+
 fn main() -> ExitCode {
     let args: Vec<String> = std::env::args().skip(1).collect();
-    let numbers = match args.get(..2) {
-        Some([seed, n]) => seed.parse().ok().zip(n.parse().ok()),
-        _ => None,
-    };
     let console = std::env::var("CONSOLE").unwrap_or_default();
-    let (Some((seed, n)), false) = (numbers, console.is_empty()) else {
-        eprintln!("usage: CONSOLE=COMMAND compare SEED N [AREA..]");
-        return ExitCode::from(2);
-    };
-    match run(seed, n, &args[2..], &console) {
+    match compare(&args, &console) {
+        Ok(true) => ExitCode::SUCCESS,
+        Ok(false) => ExitCode::FAILURE,
         Err(e) => {
             eprintln!("compare: {e}");
             ExitCode::from(2)
-        }
-        Ok(report) => {
-            report.print();
-            let differences = report.differences();
-            println!("{n} lines of seed {seed}: {differences} differences");
-            if differences == 0 && report.failures.is_empty() {
-                ExitCode::SUCCESS
-            } else {
-                ExitCode::FAILURE
-            }
         }
     }
 }

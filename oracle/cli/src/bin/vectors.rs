@@ -126,7 +126,7 @@ fn sample(seed: u64, n: usize, room: usize) -> Vec<Vec<u8>> {
     let mut longer: Vec<Line> = Vec::new();
     let settled = areas::settled();
     let mut met: BTreeSet<Vec<u8>> = settled.iter().cloned().collect();
-    let lines = areas::lines(seed, &[]).expect("all areas");
+    let lines = areas::lines(seed, &areas::sampled()).expect("areas");
     for (at, line) in lines.take(n).enumerate() {
         let answer = oracle.line(&line);
         let size = line.len() + answer.len() + 2;
