@@ -206,7 +206,12 @@ impl Report {
 
     /// The report of a run whose lines and seed `title` names.
     pub fn text(&self, title: &str, all: bool) -> String {
-        let mut out = format!("{title}: {} differences\n\n", self.differences());
+        let mut summary = format!("{title}: {} differences", self.differences());
+        if !self.failures.is_empty() {
+            let compared: usize = self.rows.values().map(|r| r.lines).sum();
+            let _ = write!(summary, ", stopped by a failure after {compared} lines");
+        }
+        let mut out = format!("{summary}\n\n");
         self.table(&mut out);
         let alone = self
             .alone
@@ -255,7 +260,7 @@ impl Report {
         for f in &self.failures {
             let _ = writeln!(out, "{f}");
         }
-        let _ = writeln!(out, "{title}: {} differences", self.differences());
+        let _ = writeln!(out, "{summary}");
         out
     }
 
