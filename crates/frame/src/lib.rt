@@ -9,6 +9,7 @@ ghost use Rattle.frame.specs.Requests.{Builds, processorType, datalog, d
 use sys0::Sys0Info;
 
 // Who asks: two vendor bytes and four serial bytes, as sent.
+#[repr(C)]
 pub struct Requestor {
     pub vid: [u8; 2],
     pub vsn: [u8; 4],

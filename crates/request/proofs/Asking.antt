@@ -33,7 +33,7 @@ module _ (x : Address) where
   bit-no h = rw h
 
 -- ---- 5
-sizes : (t : FileType) → (1 ≤ row t .size) × (row t .size ≤ 84)
+pub sizes : (t : FileType) → (1 ≤ row t .size) × (row t .size ≤ 84)
 sizes O = (lit≤ tt, lit≤ tt)
 sizes I = (lit≤ tt, lit≤ tt)
 sizes S = (lit≤ tt, lit≤ tt)

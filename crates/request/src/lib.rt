@@ -7,6 +7,7 @@ ghost use Rattle.request.specs.Request.{Builds, reading, writing};
 use address::Address;
 use address::Parsed;
 use asked::Size;
+pub use asked::bit_and_count;
 use frame::Place;
 use frame::Requestor;
 

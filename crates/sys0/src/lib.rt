@@ -4,6 +4,7 @@ ghost use lib.ListN.{take};
 ghost use Rattle.sys0.specs.Families.{layout, families, familyIn, sys0};
 
 // The directory's layout.
+#[repr(C)]
 pub struct Sys0Info {
     // place of the first row
     pub file_position: usize,

@@ -13,12 +13,14 @@ use frame::Requestor;
 use request::Request;
 
 // What is kept of a line that has not ended: its first bytes, up to 256.
+#[repr(C)]
 pub struct Line {
     pub bytes: [u8; 256],
     pub kept: usize,
 }
 
 // The line that goes on behind a piece of the input, how many bytes of the piece were taken, and how many of the output are in use.
+#[repr(C)]
 pub struct Fed {
     pub line: Line,
     pub taken: usize,

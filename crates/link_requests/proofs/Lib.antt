@@ -1,0 +1,4 @@
+pub mod Laying
+pub mod OfKind
+pub mod Records
+pub mod Through

@@ -1,0 +1,19 @@
+use Rattle.link_requests.proofs.Records.{full}
+use borrow.Author.Needs.{needs}
+use Rattle.link_requests.proofs.requests.full_address.Statement.{statement}
+use Rattle.link_requests.proofs.requests.full_address.Tie as tie
+
+returns : tie.Need-returns
+returns c = search (full, needs)
+
+pub full-address-spec : {M : Type 1} → statement M
+full-address-spec =
+    tie.close
+    (tie.spec
+    (λ c κs. search needs)
+    (λ c κs. search needs)
+    (λ c κs. search needs)
+    (λ c κs. search needs)
+    (λ c κs. search needs)
+    (λ c. search needs)
+    returns)

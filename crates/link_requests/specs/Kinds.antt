@@ -1,0 +1,31 @@
+-- The kinds of a write, by number: raw bytes 0, false 1, true 2, Latin-1 text 3.
+use Prim.Native.Nat.{ℕ}
+use mathlib.Core.Bool.{true, false, cond}
+use mathlib.Core.List.{List}
+use lib.Dec.{eqb}
+use Rattle.address.specs.declared.Address.{Address}
+use Rattle.address.specs.Spelling.{addressOf}
+use Rattle.frame.specs.declared.Requestor.{Requestor}
+use Rattle.request.specs.declared.Value.the-variants as value
+use Rattle.request.specs.Request.{Asked, refused, onAddress, bitAndCount, writing}
+use Rattle.link_requests.specs.declared.kinds.Kind.{Kind}
+use Rattle.link_requests.specs.declared.kinds.Kind.the-variants as kind
+
+unfoldable pub kindOf : ℕ → Kind
+kindOf k =
+    cond (eqb k 0) (kind.Is value.Raw)
+    (cond (eqb k 1) (kind.Is (value.Bool false))
+    (cond (eqb k 2) (kind.Is (value.Bool true))
+    (cond (eqb k 3) (kind.Is value.Text) kind.Unknown)))
+
+-- a value of no kind suits no address: 1, 2 and 3 as for any write, and then 4
+unfoldable pub unsuitedAddress : Address → Asked
+unsuitedAddress x = cond (bitAndCount x) (refused 3) (refused 4)
+
+abbrev pub unsuited : List ℕ → Asked
+unsuited tag = onAddress (addressOf tag) unsuitedAddress
+
+-- a write of a kind
+abbrev pub writingKind : Kind → List ℕ → List ℕ → Requestor → ℕ → List ℕ → Asked
+writingKind (kind.Is v) tag s q sequence out = writing tag v s q sequence out
+writingKind kind.Unknown tag s q sequence out = unsuited tag

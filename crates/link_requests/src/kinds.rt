@@ -1,0 +1,48 @@
+// The kinds of a write.
+ghost use mathlib.Core.Path.{_≡_};
+ghost use Rattle.request.specs.Request.{requestOf};
+ghost use Rattle.link_requests.specs.Kinds.{kindOf, unsuited as Kinds·unsuited};
+use address::Parsed;
+use request::Request;
+use request::Value;
+
+// What a number says to write.
+pub enum Kind {
+    Is(Value),
+    Unknown,
+}
+
+// Raw bytes, false, true and Latin-1 text are 0 to 3.
+pub fn kind_of(kind: u8) -> Kind
+    ensures { λ r. ⌜ r ≡ kindOf kind ⌝ }
+{
+    if kind == 0 {
+        return Kind::Is(Value::Raw);
+    }
+    if kind == 1 {
+        return Kind::Is(Value::Bool(false));
+    }
+    if kind == 2 {
+        return Kind::Is(Value::Bool(true));
+    }
+    if kind == 3 {
+        return Kind::Is(Value::Text);
+    }
+    Kind::Unknown
+}
+
+// The answer to a write of a kind that there is not: it suits no address. Refused with 1 to 4.
+pub fn unsuited(tag: &[u8]) -> Request
+    ensures { λ r. ⌜ r ≡ requestOf (Kinds·unsuited (now (tag .entry))) ⌝ }
+{
+    let parsed = address::parse_tag(tag);
+    match parsed {
+        Parsed::Refused(n) => Request::Refused(n),
+        Parsed::Is(x) => {
+            if request::bit_and_count(x) {
+                return Request::Refused(3);
+            }
+            Request::Refused(4)
+        }
+    }
+}

@@ -1,0 +1,13 @@
+use Rattle.file_type.specs.declared.Known.{Known}
+use Prim.Native.Nat.{ℕ}
+use Rattle.link_requests.specs.Types.{nameRecord, wordNameIn}
+use Rattle.link_requests.proofs.Through.{beside}
+use borrow.Author.Needs.{needs}
+use Rattle.slc_link.proofs.file_types.slc_word_name.Statement.{statement}
+use Rattle.slc_link.proofs.file_types.slc_word_name.Tie as tie
+
+returns : tie.Need-returns
+returns c = search (beside (λ (i : ℕ) (k : Known). nameRecord (wordNameIn k i)), needs)
+
+pub slc-word-name-spec : {M : Type 1} → statement M
+slc-word-name-spec = tie.close (tie.spec (λ c κs. search needs) (λ c κs. search needs) returns)

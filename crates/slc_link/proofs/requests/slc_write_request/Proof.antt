@@ -1,0 +1,25 @@
+use Rattle.link_requests.proofs.Through.{asks-kind, asks-none}
+use borrow.Author.Needs.{needs}
+use Rattle.slc_link.proofs.requests.slc_write_request.Statement.{statement}
+use Rattle.slc_link.proofs.requests.slc_write_request.Tie as tie
+
+returns : tie.Need-returns
+returns c = search (asks-kind, needs)
+
+returns-2 : tie.Need-returns-2
+returns-2 c = search (asks-none, needs)
+
+pub slc-write-request-spec : {M : Type 1} → statement M
+slc-write-request-spec =
+    tie.close
+    (tie.spec
+    (λ c κs. search needs)
+    (λ c. search needs)
+    (λ c κs. search needs)
+    (λ c κs. search needs)
+    (λ c. search needs)
+    (λ c κs. search needs)
+    (λ c κs. search needs)
+    (λ c. search needs)
+    returns
+    returns-2)

@@ -1,0 +1,7 @@
+// The C interface: each function is a proved call, with its answer as a record. A slice is a pointer and a length in C.
+mod directories;
+mod file_types;
+mod lines;
+mod replies;
+mod requests;
+mod texts;

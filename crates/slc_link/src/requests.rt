@@ -1,0 +1,86 @@
+// Addresses and requests.
+ghost use mathlib.Core.Path.{_≡_};
+ghost use Rattle.address.specs.Spelling.{addressOf};
+ghost use Rattle.frame.specs.Frame.{defaultRequestor};
+ghost use Rattle.frame.specs.Requests.{processorType, datalog};
+ghost use Rattle.link_requests.specs.Kinds.{kindOf, writingKind};
+ghost use Rattle.link_requests.specs.Requests.{addressRecord, Asks};
+ghost use Rattle.link_requests.specs.Written.{Sends};
+ghost use Rattle.request.specs.Request.{reading};
+use frame::Requestor;
+use link_requests::kinds;
+use link_requests::kinds::Kind;
+use link_requests::requests as records;
+use link_requests::requests::SlcAddress;
+use link_requests::requests::SlcRequest;
+use link_requests::written;
+use link_requests::written::SlcWritten;
+
+#[no_mangle]
+pub extern "C" fn slc_parse_tag(tag: &[u8]) -> SlcAddress
+    ensures { λ r. ⌜ r ≡ addressRecord (addressOf (now (tag .entry))) ⌝ }
+{
+    records::address_record(address::parse_tag(tag))
+}
+
+#[no_mangle]
+pub extern "C" fn slc_default_requestor() -> Requestor
+    ensures { λ r. ⌜ r ≡ defaultRequestor ⌝ }
+{
+    Requestor::default()
+}
+
+#[no_mangle]
+pub extern "C" fn slc_read_request(
+    tag: &[u8],
+    q: Requestor,
+    sequence: u16,
+    out: &mut [u8],
+) -> SlcRequest
+    ensures { λ r. ⌜ Asks (reading (now (tag .entry)) q sequence (now (out .entry))) (now (out .entry)) r (now (out .exit)) ⌝ }
+{
+    records::request_record(request::read_request(tag, q, sequence, out))
+}
+
+#[no_mangle]
+pub extern "C" fn slc_write_request(
+    tag: &[u8],
+    kind: u8,
+    bytes: &[u8],
+    q: Requestor,
+    sequence: u16,
+    out: &mut [u8],
+) -> SlcRequest
+    ensures { λ r. ⌜ Asks (writingKind (kindOf kind) (now (tag .entry)) (now (bytes .entry)) q sequence (now (out .entry))) (now (out .entry)) r (now (out .exit)) ⌝ }
+{
+    let k = kinds::kind_of(kind);
+    match k {
+        Kind::Is(v) => records::request_record(request::write_request(
+            tag,
+            v,
+            bytes,
+            q,
+            sequence,
+            out,
+        )),
+        Kind::Unknown => records::request_record(kinds::unsuited(tag)),
+    }
+}
+
+#[no_mangle]
+pub extern "C" fn slc_processor_type_request(
+    q: Requestor,
+    sequence: u16,
+    out: &mut [u8],
+) -> SlcWritten
+    ensures { λ r. ⌜ Sends (processorType q sequence (now (out .entry))) (now (out .entry)) r (now (out .exit)) ⌝ }
+{
+    written::message_record(frame::processor_type_request(q, sequence, out))
+}
+
+#[no_mangle]
+pub extern "C" fn slc_datalog_request(queue: u8, out: &mut [u8]) -> SlcWritten
+    ensures { λ r. ⌜ Sends (datalog queue (now (out .entry))) (now (out .entry)) r (now (out .exit)) ⌝ }
+{
+    written::message_record(frame::datalog_request(queue, out))
+}
