@@ -5,9 +5,10 @@ use mathlib.Core.List.{List}
 use native.Mathlib.Nat.{zero-add}
 use native.Mathlib.Omega.{arith}
 use borrow.Author.Tests.{lt-ltb, le-ltb}
-use lib.ListN.{length, take, drop}
+use lib.ListN.{length, take, drop, length-drop}
 use Rattle.base.specs.Put.{put, Wrote, Puts}
 use Rattle.reply.specs.Status.{datalogEntry}
+use Rattle.reply.proofs.Status.{entry-is}
 use Rattle.swap.specs.Text.{writtenOf, outOf}
 use Rattle.link_requests.specs.declared.written.SlcWritten.{SlcWritten}
 use Rattle.link_requests.specs.Written.{written, swappedRecord, partOf, Swaps}
@@ -25,3 +26,10 @@ module _ (bs l : List ℕ) where
 pub entry : (raw : List ℕ) {e : List ℕ} {n : ℕ} → e ≡ datalogEntry raw → n ≡ min 61 (length raw) → record { from = n; length = length e } ≡ partOf raw
 unfolding partOf
 entry raw e n = rw (e, n)
+
+-- the part that the record tells is the entry
+pub part-is-entry : (raw : List ℕ) → take (partOf raw .length) (drop (partOf raw .from) raw) ≡ datalogEntry raw
+unfolding partOf
+part-is-entry raw =
+    let e : length (drop 61 raw) ≡ length raw - min 61 (length raw) = simp length-drop (omega arith) in
+    rw e (entry-is raw (min 61 (length raw)) refl)

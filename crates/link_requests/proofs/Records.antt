@@ -23,7 +23,7 @@ use Rattle.link_requests.specs.declared.requests.SlcAddress.{SlcAddress}
 use Rattle.link_requests.specs.declared.types.SlcField.{SlcField}
 use Rattle.link_requests.specs.declared.types.SlcName.{SlcName}
 use Rattle.link_requests.specs.Requests.{flag, noAddress, fullAddress, requestRecord}
-use Rattle.link_requests.specs.Types.{typeRecord, shortName, nameRecord, fieldIn, fieldRecord}
+use Rattle.link_requests.specs.Types.{knownType, shortName, nameRecord, fieldIn, fieldRecord}
 
 -- what is said of a case is said of the answer
 pub case : {A B : Type 0} (f : A → B) {m a : A} {b : B} → m ≡ a → b ≡ f a → b ≡ f m
@@ -41,10 +41,11 @@ module _ (t : FileType) {n : ℕ} where
   pub bits-fit : n ≡ length (bitNames t) → Fits w8 n
   bits-fit h = omega (arith, bits-most t)
 
-pub known-type : (t : FileType) {k : Known} {c n m : ℕ} {b : Bool} {s : Name} → k ≡ known.Is t → c ≡ row t .code → n ≡ row t .size → b ≡ row t .simulated
-    → m ≡ length (bitNames t) → Named (row t .name) s
-    → record { known = 1; code = c; «element_size» = n; simulated = boolByte b; bits = m; «name_len» = s .len; name = s .text } ≡ typeRecord k
-known-type t e c n b m w = rw (e, c, n, b, m, w .is, as-flag (row t .simulated))
+pub known-type : (t : FileType) {c n m : ℕ} {b : Bool} {s : Name} → c ≡ row t .code → n ≡ row t .size → b ≡ row t .simulated → m ≡ length (bitNames t)
+    → Named (row t .name) s
+    → record { known = 1; code = c; «element_size» = n; simulated = boolByte b; bits = m; «name_len» = s .len; name = s .text } ≡ knownType t
+unfolding knownType
+known-type t c n b m w = rw (c, n, b, m, w .is, as-flag (row t .simulated))
 
 -- a name among those of a type
 module _ (names : Known → ℕ → List ℕ) (i : ℕ) {k : Known} {r : SlcName} where

@@ -4,6 +4,7 @@ use mathlib.Core.List.{List, []}
 use lib.ListN.{length, getD, replicate}
 use Rattle.file_type.specs.declared.Field.{Field}
 use Rattle.file_type.specs.declared.Field.the-variants as field
+use Rattle.file_type.specs.declared.FileType.{FileType}
 use Rattle.file_type.specs.declared.Known.{Known}
 use Rattle.file_type.specs.declared.Known.the-variants as known
 use Rattle.file_type.specs.declared.Name.{Name}
@@ -13,8 +14,8 @@ use Rattle.link_requests.specs.declared.types.SlcFileType.{SlcFileType}
 use Rattle.link_requests.specs.declared.types.SlcName.{SlcName}
 use Rattle.link_requests.specs.Requests.{flag}
 
-abbrev pub typeRecord : Known → SlcFileType
-typeRecord (known.Is t) = record {
+unfoldable pub knownType : FileType → SlcFileType
+knownType t = record {
   known = 1;
   code = row t .code;
   «element_size» = row t .size;
@@ -23,6 +24,10 @@ typeRecord (known.Is t) = record {
   «name_len» = length (row t .name);
   name = named (row t .name) .text;
 }
+
+-- all is 0 where the type is not known
+abbrev pub typeRecord : Known → SlcFileType
+typeRecord (known.Is t) = knownType t
 typeRecord known.Unknown = record { known = 0; code = 0; «element_size» = 0; simulated = 0; bits = 0; «name_len» = 0; name = replicate 3 0 }
 
 abbrev pub shortName : Name → SlcName

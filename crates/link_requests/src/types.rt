@@ -2,7 +2,7 @@
 ghost use mathlib.Core.Path.{_≡_};
 ghost use mathlib.Core.List.{[]};
 ghost use Prim.Native.Nat.{_≤_};
-ghost use Rattle.link_requests.specs.Types.{typeRecord, shortName, nameRecord, bitNameIn, wordNameIn, fieldIn, fieldRecord};
+ghost use Rattle.link_requests.specs.Types.{knownType, typeRecord, shortName, nameRecord, bitNameIn, wordNameIn, fieldIn, fieldRecord};
 use file_type::Field;
 use file_type::FileType;
 use file_type::Known;
@@ -34,23 +34,27 @@ pub struct SlcField {
     pub index: u8,
 }
 
+fn known_type(t: FileType) -> SlcFileType
+    ensures { λ r. ⌜ r ≡ knownType t ⌝ }
+{
+    let n = t.name();
+    let name = n.text;
+    SlcFileType {
+        known: 1,
+        code: t.code(),
+        element_size: t.element_size() as u8,
+        simulated: t.simulated() as u8,
+        bits: t.bits() as u8,
+        name_len: n.len as u8,
+        name,
+    }
+}
+
 pub fn type_record(k: Known) -> SlcFileType
     ensures { λ r. ⌜ r ≡ typeRecord k ⌝ }
 {
     match k {
-        Known::Is(t) => {
-            let n = t.name();
-            let name = n.text;
-            SlcFileType {
-                known: 1,
-                code: t.code(),
-                element_size: t.element_size() as u8,
-                simulated: t.simulated() as u8,
-                bits: t.bits() as u8,
-                name_len: n.len as u8,
-                name,
-            }
-        }
+        Known::Is(t) => known_type(t),
         Known::Unknown => SlcFileType {
             known: 0,
             code: 0,

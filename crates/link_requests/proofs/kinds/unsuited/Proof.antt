@@ -3,15 +3,6 @@ use borrow.Author.Needs.{needs}
 use Rattle.link_requests.proofs.kinds.unsuited.Statement.{statement}
 use Rattle.link_requests.proofs.kinds.unsuited.Tie as tie
 
-returns : tie.Need-returns
-returns c = search (unsuited-3, needs)
-
-returns-2 : tie.Need-returns-2
-returns-2 c = search (unsuited-refused, needs)
-
-returns-3 : tie.Need-returns-3
-returns-3 c = search (unsuited-4, needs)
-
 pub unsuited-spec : {M : Type 1} → statement M
 unsuited-spec =
     tie.close
@@ -20,6 +11,6 @@ unsuited-spec =
     (λ c. search needs)
     (λ c. search needs)
     (λ c κs. search needs)
-    returns
-    returns-2
-    returns-3)
+    (λ c. search (unsuited-3, needs))
+    (λ c. search (unsuited-refused, needs))
+    (λ c. search (unsuited-4, needs)))

@@ -4,12 +4,6 @@ use borrow.Author.Needs.{needs}
 use Rattle.link_requests.proofs.requests.address_record.Statement.{statement}
 use Rattle.link_requests.proofs.requests.address_record.Tie as tie
 
-returns : tie.Need-returns
-returns c = search (case addressRecord, needs)
-
-returns-2 : tie.Need-returns-2
-returns-2 c = search (case addressRecord, needs)
-
 pub address-record-spec : {M : Type 1} → statement M
 address-record-spec =
     tie.close
@@ -18,5 +12,5 @@ address-record-spec =
     (λ c κs. search needs)
     (λ c. search needs)
     (λ c κs. search needs)
-    returns
-    returns-2)
+    (λ c. search (case addressRecord, needs))
+    (λ c. search (case addressRecord, needs)))

@@ -3,9 +3,6 @@ use borrow.Author.Needs.{needs}
 use Rattle.link_requests.proofs.requests.full_address.Statement.{statement}
 use Rattle.link_requests.proofs.requests.full_address.Tie as tie
 
-returns : tie.Need-returns
-returns c = search (full, needs)
-
 pub full-address-spec : {M : Type 1} → statement M
 full-address-spec =
     tie.close
@@ -16,4 +13,4 @@ full-address-spec =
     (λ c κs. search needs)
     (λ c κs. search needs)
     (λ c. search needs)
-    returns)
+    (λ c. search (full, needs)))

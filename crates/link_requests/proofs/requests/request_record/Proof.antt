@@ -3,12 +3,6 @@ use borrow.Author.Needs.{needs}
 use Rattle.link_requests.proofs.requests.request_record.Statement.{statement}
 use Rattle.link_requests.proofs.requests.request_record.Tie as tie
 
-returns : tie.Need-returns
-returns c = search (request-refused, needs)
-
-returns-2 : tie.Need-returns-2
-returns-2 c = search (request-built, needs)
-
 pub request-record-spec : {M : Type 1} → statement M
 request-record-spec =
     tie.close
@@ -17,5 +11,5 @@ request-record-spec =
     (λ c κs. search needs)
     (λ c. search needs)
     (λ c κs. search needs)
-    returns
-    returns-2)
+    (λ c. search (request-refused, needs))
+    (λ c. search (request-built, needs)))

@@ -4,12 +4,6 @@ use borrow.Author.Needs.{needs}
 use Rattle.link_requests.proofs.types.bit_name.Statement.{statement}
 use Rattle.link_requests.proofs.types.bit_name.Tie as tie
 
-returns : tie.Need-returns
-returns c = search (named bitNameIn, needs)
-
-returns-2 : tie.Need-returns-2
-returns-2 c = search (not-named bitNameIn, needs)
-
 pub bit-name-spec : {M : Type 1} → statement M
 bit-name-spec =
     tie.close
@@ -19,5 +13,5 @@ bit-name-spec =
     (λ c κs. search needs)
     (λ c. search needs)
     (λ c κs. search needs)
-    returns
-    returns-2)
+    (λ c. search (named bitNameIn, needs))
+    (λ c. search (not-named bitNameIn, needs)))

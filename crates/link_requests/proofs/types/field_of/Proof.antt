@@ -3,13 +3,7 @@ use borrow.Author.Needs.{needs}
 use Rattle.link_requests.proofs.types.field_of.Statement.{statement}
 use Rattle.link_requests.proofs.types.field_of.Tie as tie
 
-returns : tie.Need-returns
-returns c = search (field-known, needs)
-
-returns-2 : tie.Need-returns-2
-returns-2 c = search (field-unknown, needs)
-
 pub field-of-spec : {M : Type 1} → statement M
 field-of-spec =
     tie.close
-    (tie.spec (λ c. search needs) (λ c κs. search needs) (λ c κs. search needs) (λ c. search needs) returns returns-2)
+    (tie.spec (λ c. search needs) (λ c κs. search needs) (λ c κs. search needs) (λ c. search needs) (λ c. search (field-known, needs)) (λ c. search (field-unknown, needs)))

@@ -4,12 +4,6 @@ use borrow.Author.Needs.{needs}
 use Rattle.link_requests.proofs.types.word_name.Statement.{statement}
 use Rattle.link_requests.proofs.types.word_name.Tie as tie
 
-returns : tie.Need-returns
-returns c = search (named wordNameIn, needs)
-
-returns-2 : tie.Need-returns-2
-returns-2 c = search (not-named wordNameIn, needs)
-
 pub word-name-spec : {M : Type 1} → statement M
 word-name-spec =
     tie.close
@@ -19,5 +13,5 @@ word-name-spec =
     (λ c κs. search needs)
     (λ c. search needs)
     (λ c κs. search needs)
-    returns
-    returns-2)
+    (λ c. search (named wordNameIn, needs))
+    (λ c. search (not-named wordNameIn, needs)))

@@ -4,11 +4,5 @@ use borrow.Author.Needs.{needs}
 use Rattle.link_requests.proofs.written.size_record.Statement.{statement}
 use Rattle.link_requests.proofs.written.size_record.Tie as tie
 
-returns : tie.Need-returns
-returns c = search (case sizeRecord, needs)
-
-returns-2 : tie.Need-returns-2
-returns-2 c = search (case sizeRecord, needs)
-
 pub size-record-spec : {M : Type 1} → statement M
-size-record-spec = tie.close (tie.spec (λ c. search needs) (λ c. search needs) returns returns-2)
+size-record-spec = tie.close (tie.spec (λ c. search needs) (λ c. search needs) (λ c. search (case sizeRecord, needs)) (λ c. search (case sizeRecord, needs)))

@@ -4,13 +4,7 @@ use borrow.Author.Needs.{needs}
 use Rattle.link_requests.proofs.written.swapped_record.Statement.{statement}
 use Rattle.link_requests.proofs.written.swapped_record.Tie as tie
 
-returns : tie.Need-returns
-returns c = search (case swappedRecord, needs)
-
-returns-2 : tie.Need-returns-2
-returns-2 c = search (case swappedRecord, needs)
-
 pub swapped-record-spec : {M : Type 1} → statement M
 swapped-record-spec =
     tie.close
-    (tie.spec (λ c. search needs) (λ c κs. search needs) (λ c. search needs) (λ c κs. search needs) returns returns-2)
+    (tie.spec (λ c. search needs) (λ c κs. search needs) (λ c. search needs) (λ c κs. search needs) (λ c. search (case swappedRecord, needs)) (λ c. search (case swappedRecord, needs)))

@@ -5,10 +5,7 @@ use Rattle.slc_link.proofs.directories.slc_file_directory_read_request.
 }
 use Rattle.slc_link.proofs.directories.slc_file_directory_read_request.Tie as tie
 
-returns : tie.Need-returns
-returns c = search (sends, needs)
-
 pub slc-file-directory-read-request-spec : {M : Type 1} → statement M
 slc-file-directory-read-request-spec =
     tie.close
-    (tie.spec (λ c κs. search needs) (λ c κs. search needs) (λ c. search needs) returns)
+    (tie.spec (λ c κs. search needs) (λ c κs. search needs) (λ c. search needs) (λ c. search (sends, needs)))

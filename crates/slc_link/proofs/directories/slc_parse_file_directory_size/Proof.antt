@@ -4,9 +4,6 @@ use borrow.Author.Needs.{needs}
 use Rattle.slc_link.proofs.directories.slc_parse_file_directory_size.Statement.{statement}
 use Rattle.slc_link.proofs.directories.slc_parse_file_directory_size.Tie as tie
 
-returns : tie.Need-returns
-returns c = search (through sizeRecord, needs)
-
 pub slc-parse-file-directory-size-spec : {M : Type 1} → statement M
 slc-parse-file-directory-size-spec =
-    tie.close (tie.spec (λ c κs. search needs) (λ c κs. search needs) returns)
+    tie.close (tie.spec (λ c κs. search needs) (λ c κs. search needs) (λ c. search (through sizeRecord, needs)))

@@ -6,8 +6,5 @@ use borrow.Author.Needs.{needs}
 use Rattle.slc_link.proofs.file_types.slc_bit_name.Statement.{statement}
 use Rattle.slc_link.proofs.file_types.slc_bit_name.Tie as tie
 
-returns : tie.Need-returns
-returns c = search (beside (λ (i : ℕ) (k : Known). nameRecord (bitNameIn k i)), needs)
-
 pub slc-bit-name-spec : {M : Type 1} → statement M
-slc-bit-name-spec = tie.close (tie.spec (λ c κs. search needs) (λ c κs. search needs) returns)
+slc-bit-name-spec = tie.close (tie.spec (λ c κs. search needs) (λ c κs. search needs) (λ c. search (beside (λ (i : ℕ) (k : Known). nameRecord (bitNameIn k i)), needs)))

@@ -7,8 +7,5 @@ use borrow.Author.Needs.{needs}
 use Rattle.slc_link.proofs.file_types.slc_field_of.Statement.{statement}
 use Rattle.slc_link.proofs.file_types.slc_field_of.Tie as tie
 
-returns : tie.Need-returns
-returns c = search (beside (λ (s : List ℕ) (k : Known). fieldRecord (fieldIn k s)), needs)
-
 pub slc-field-of-spec : {M : Type 1} → statement M
-slc-field-of-spec = tie.close (tie.spec (λ c κs. search needs) (λ c κs. search needs) returns)
+slc-field-of-spec = tie.close (tie.spec (λ c κs. search needs) (λ c κs. search needs) (λ c. search (beside (λ (s : List ℕ) (k : Known). fieldRecord (fieldIn k s)), needs)))

@@ -4,8 +4,5 @@ use borrow.Author.Needs.{needs}
 use Rattle.slc_link.proofs.file_types.slc_type_of_code.Statement.{statement}
 use Rattle.slc_link.proofs.file_types.slc_type_of_code.Tie as tie
 
-returns : tie.Need-returns
-returns c = search (through typeRecord, needs)
-
 pub slc-type-of-code-spec : {M : Type 1} → statement M
-slc-type-of-code-spec = tie.close (tie.spec (λ c κs. search needs) (λ c κs. search needs) returns)
+slc-type-of-code-spec = tie.close (tie.spec (λ c κs. search needs) (λ c κs. search needs) (λ c. search (through typeRecord, needs)))

@@ -6,8 +6,5 @@ use borrow.Author.Needs.{needs}
 use Rattle.slc_link.proofs.file_types.slc_word_name.Statement.{statement}
 use Rattle.slc_link.proofs.file_types.slc_word_name.Tie as tie
 
-returns : tie.Need-returns
-returns c = search (beside (λ (i : ℕ) (k : Known). nameRecord (wordNameIn k i)), needs)
-
 pub slc-word-name-spec : {M : Type 1} → statement M
-slc-word-name-spec = tie.close (tie.spec (λ c κs. search needs) (λ c κs. search needs) returns)
+slc-word-name-spec = tie.close (tie.spec (λ c κs. search needs) (λ c κs. search needs) (λ c. search (beside (λ (i : ℕ) (k : Known). nameRecord (wordNameIn k i)), needs)))

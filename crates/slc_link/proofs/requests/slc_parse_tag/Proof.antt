@@ -4,8 +4,5 @@ use borrow.Author.Needs.{needs}
 use Rattle.slc_link.proofs.requests.slc_parse_tag.Statement.{statement}
 use Rattle.slc_link.proofs.requests.slc_parse_tag.Tie as tie
 
-returns : tie.Need-returns
-returns c = search (through addressRecord, needs)
-
 pub slc-parse-tag-spec : {M : Type 1} → statement M
-slc-parse-tag-spec = tie.close (tie.spec (λ c κs. search needs) (λ c κs. search needs) returns)
+slc-parse-tag-spec = tie.close (tie.spec (λ c κs. search needs) (λ c κs. search needs) (λ c. search (through addressRecord, needs)))

@@ -3,10 +3,7 @@ use borrow.Author.Needs.{needs}
 use Rattle.slc_link.proofs.requests.slc_processor_type_request.Statement.{statement}
 use Rattle.slc_link.proofs.requests.slc_processor_type_request.Tie as tie
 
-returns : tie.Need-returns
-returns c = search (sends, needs)
-
 pub slc-processor-type-request-spec : {M : Type 1} → statement M
 slc-processor-type-request-spec =
     tie.close
-    (tie.spec (λ c κs. search needs) (λ c κs. search needs) (λ c. search needs) returns)
+    (tie.spec (λ c κs. search needs) (λ c κs. search needs) (λ c. search needs) (λ c. search (sends, needs)))

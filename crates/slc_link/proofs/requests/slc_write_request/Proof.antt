@@ -3,12 +3,6 @@ use borrow.Author.Needs.{needs}
 use Rattle.slc_link.proofs.requests.slc_write_request.Statement.{statement}
 use Rattle.slc_link.proofs.requests.slc_write_request.Tie as tie
 
-returns : tie.Need-returns
-returns c = search (asks-kind, needs)
-
-returns-2 : tie.Need-returns-2
-returns-2 c = search (asks-none, needs)
-
 pub slc-write-request-spec : {M : Type 1} → statement M
 slc-write-request-spec =
     tie.close
@@ -21,5 +15,5 @@ slc-write-request-spec =
     (λ c κs. search needs)
     (λ c κs. search needs)
     (λ c. search needs)
-    returns
-    returns-2)
+    (λ c. search (asks-kind, needs))
+    (λ c. search (asks-none, needs)))
