@@ -1,0 +1,348 @@
+use crate::*;
+
+fn requestor() -> Requestor {
+    Requestor::default()
+}
+
+fn read(tag: &str) -> Result<Vec<u8>, Refused> {
+    let mut out = [0; REQUEST_ROOM];
+    Ok(read_request(tag.as_bytes(), requestor(), 0, &mut out)?.message.to_vec())
+}
+
+fn write(tag: &str, value: WriteValue) -> Result<Vec<u8>, Refused> {
+    let mut out = [0; WRITE_ROOM];
+    Ok(write_request(tag.as_bytes(), value, requestor(), 0, &mut out)?.message.to_vec())
+}
+
+/// A command from the function byte on, behind the default requester's id, 0F 00 and sequence 0.
+fn command(function: &[u8]) -> Vec<u8> {
+    [&[7, 9, 0x10, 9, 0x10, 0x19, 0x71, 0x0F, 0, 0, 0], function].concat()
+}
+
+fn ask(processor: &mut Processor, command: &[u8]) -> Result<Vec<u8>, Refused> {
+    let mut reply = [0; REPLY_ROOM];
+    Ok(processor.pccc(command, &mut reply)?.to_vec())
+}
+
+fn file(file_type: FileType, number: u32, elements: u32) -> File {
+    File { file_type, number, elements }
+}
+
+fn at(number: u16, file_type: FileType, element: usize) -> Spot {
+    Spot { number, file_type, element }
+}
+
+fn default_processor() -> Processor {
+    Processor::new(&[], b"1747-L552", &[]).unwrap()
+}
+
+const W1: [u8; 23] = [0x4B, 2, 0x20, 0x67, 0x24, 1, 7, 9, 0x10, 9, 0x10, 0x19, 0x71, 0x0F, 0, 0x34, 0x12, 0xA2, 2, 7, 0x89, 0, 0];
+const BAD: [u8; 12] = [7, 9, 0x10, 9, 0x10, 0x19, 0x71, 0x4F, 0xF0, 0, 0, 6];
+
+#[test]
+fn refusals_have_their_questions() {
+    assert_eq!(Refused(16).question(), Some("Is the processor sound?"));
+    assert_eq!(Refused(26).to_string(), "refused 26: Is the offset at most 65,535? No.");
+    assert_eq!(Refused(0).question(), None);
+    assert_eq!(Refused(27).to_string(), "refused 27");
+}
+
+#[test]
+fn every_code_has_the_type_that_the_library_knows() {
+    let known: Vec<FileType> = (0..=255).filter_map(FileType::from_code).collect();
+    assert_eq!(known, FileType::ALL);
+    for t in FileType::ALL {
+        assert_eq!(FileType::from_name(t.name().as_bytes()), Some(t));
+    }
+    assert_eq!(FileType::from_name(b"n"), None);
+    assert_eq!(FileType::from_name(b""), None);
+}
+
+#[test]
+fn types_have_sizes_and_names() {
+    let sizes: Vec<usize> = FileType::ALL.iter().map(|t| t.element_size()).collect();
+    assert_eq!(sizes, [2, 2, 2, 2, 6, 6, 6, 2, 4, 84, 2, 4, 50, 46, 12]);
+    assert_eq!(FileType::ALL.iter().filter(|t| t.simulated()).count(), 12);
+    assert_eq!(format!("{} {:?} {:>4}", FileType::PLS, FileType::ST.name(), FileType::N), "PLS \"ST\"    N");
+}
+
+#[test]
+fn fields_have_names() {
+    let r = FileType::R;
+    let bits: Vec<String> = (0..r.bits()).map(|i| r.bit_name(i).to_string()).collect();
+    assert_eq!(bits, ["EN", "EU", "DN", "EM", "ER", "UL", "IN", "FD"]);
+    assert_eq!((r.word_name(0).as_str(), r.word_name(1).as_str(), r.word_name(2).as_str()), ("LEN", "POS", ""));
+    assert_eq!(r.field(b"pos"), Some(Field::Word(2)));
+    assert_eq!(r.field(b"Fd"), Some(Field::Bit(8)));
+    assert_eq!(FileType::T.field(b"EN"), Some(Field::Bit(15)));
+    assert_eq!(FileType::N.field(b"EN"), None);
+}
+
+#[test]
+fn text() {
+    let mut out = [0xEE; 84];
+    assert_eq!(string_swap(b"abc", &mut out), Ok(&b"ba\0c"[..]));
+    assert_eq!(out[4], 0xEE);
+    assert_eq!(string_swap(b"abc", &mut out[..3]), Err(Refused(6)));
+    assert_eq!(string_swap(b"", &mut []), Ok(&b""[..]));
+    let mut bytes = *b"abc";
+    swap_pairs(&mut bytes);
+    assert_eq!(&bytes, b"bac");
+    swap_pairs(&mut []);
+    assert_eq!(encode_ascii(b"x", &mut out), Ok(&b" x"[..]));
+    assert_eq!(encode_ascii(b"x", &mut out[..1]), Err(Refused(6)));
+    let st = encode_string(b"abc", &mut out).unwrap();
+    assert_eq!((st.len(), &st[..7]), (84, &b"\x03\0ba\0c\0"[..]));
+    assert_eq!(encode_string(b"abc", &mut [0; 83]), Err(Refused(6)));
+}
+
+#[test]
+fn elements() {
+    let mut none = [0; 0];
+    let mut word = [0xEE; 3];
+    assert_eq!(encode_element(FileType::N, Value::Whole(-2), &mut word), Ok(()));
+    assert_eq!(word, [0xFE, 0xFF, 0xEE]);
+    assert_eq!(decode_element(FileType::N, &word, &mut none), Ok(Element::Whole(-2)));
+    assert_eq!(encode_element(FileType::N, Value::Whole(65536), &mut word), Err(Refused(22)));
+    assert_eq!(encode_element(FileType::N, Value::Text(b"a"), &mut word), Err(Refused(20)));
+    assert_eq!(encode_element(FileType::L, Value::Whole(1), &mut word), Err(Refused(19)));
+    assert_eq!(encode_element(FileType::MG, Value::Whole(1), &mut [0; 50]), Err(Refused(20)));
+    assert_eq!(word, [0xFE, 0xFF, 0xEE]);
+
+    let mut long = [0; 4];
+    let bits = (-1.5f32).to_bits();
+    assert_eq!(encode_element(FileType::F, Value::Float(bits), &mut long), Ok(()));
+    assert_eq!(decode_element(FileType::F, &long, &mut none), Ok(Element::Float(bits)));
+    assert_eq!(encode_element(FileType::L, Value::Whole(-70_000), &mut long), Ok(()));
+    assert_eq!(decode_element(FileType::L, &long, &mut none), Ok(Element::Whole(-70_000)));
+
+    let mut timer = [0; 6];
+    assert_eq!(encode_element(FileType::T, Value::Words(1, 500, -3), &mut timer), Ok(()));
+    assert_eq!(encode_element(FileType::T, Value::Field(b"en", 1), &mut timer), Ok(()));
+    assert_eq!(timer, [1, 0x80, 0xF4, 1, 0xFD, 0xFF]);
+    assert_eq!(decode_element(FileType::T, &timer, &mut none), Ok(Element::Fields { word1: 500, word2: -3, status: 0x8000 }));
+    assert_eq!(encode_element(FileType::T, Value::Field(b"XX", 1), &mut timer), Err(Refused(21)));
+    assert_eq!(encode_element(FileType::T, Value::Words(0, 99_999, 0), &mut timer), Err(Refused(22)));
+
+    let mut line = [0; 84];
+    let mut text = [0; TEXT_ROOM];
+    assert_eq!(encode_element(FileType::ST, Value::Text(b"robusta"), &mut line), Ok(()));
+    assert_eq!(decode_element(FileType::ST, &line, &mut text), Ok(Element::Text(b"robusta")));
+    assert_eq!(decode_element(FileType::ST, &line, &mut text[..81]), Err(Refused(24)));
+    assert_eq!(encode_element(FileType::ST, Value::Text(&[b'x'; 83]), &mut line), Err(Refused(23)));
+}
+
+#[test]
+fn w1_to_w6() {
+    let mut out = [0xEE; 30];
+    let w1 = read_request(b"N7:0", requestor(), 0x1234, &mut out).unwrap();
+    assert_eq!(w1.message, W1);
+    assert_eq!(w1.address, parse_tag(b"n7:0").unwrap());
+    assert_eq!(out[23..], [0xEE; 7]);
+
+    let w2 = parse_tag(b"T4:123PRE").unwrap();
+    assert_eq!((w2.file_type, w2.file_number, w2.element_number, w2.sub_element, w2.bit), (FileType::T, 4, 12, Some(1), true));
+    assert_eq!((w2.position, w2.element_count, w2.kept), (None, 1, 9));
+    assert_eq!(read("I99:3.300/5").unwrap()[18..], [2, 1, 0x83, 3, 0xFF, 0x2C, 1]);
+    assert_eq!(read("B3/4095").unwrap()[19..], [3, 0x85, 0xFF, 0xFF, 0, 0]);
+    assert_eq!((read("N7:0{0}").unwrap()[18], read("N7:0{127}").unwrap()[18]), (0, 254));
+    assert_eq!(parse_tag(b"N7:0{99999999999999999999}").unwrap().element_count, u64::MAX);
+    let refused = ["N7:0{128}", "ST9:0{3}", "N7:0/3{2}", "", "X7:0", &"N".repeat(256), "N7:\u{e9}"].map(|tag| read(tag).unwrap_err().0);
+    assert_eq!(refused, [5, 2, 3, 2, 2, 1, 1]);
+    assert_eq!(read_request(b"N7:0", requestor(), 0, &mut out[..26]), Err(Refused(6)));
+}
+
+#[test]
+fn w7_and_w8() {
+    assert_eq!(write("N7:0/3", WriteValue::Bool(true)).unwrap()[23..], [8, 0, 8, 0]);
+    assert_eq!(write("N7:0/3", WriteValue::Bool(false)).unwrap()[23..], [8, 0, 0, 0]);
+    let w8 = write("ST9:0", WriteValue::Text(b"abc")).unwrap();
+    assert_eq!(w8[23..31], [0xFF, 0xFF, 3, 0, 0x62, 0x61, 0, 0x63]);
+    assert_eq!(write("N7:0", WriteValue::Raw(&[0xFF, 0xFF, 1, 2])).unwrap()[17..], [0xAB, 2, 7, 0x89, 0, 0, 0xFF, 0xFF, 1, 2]);
+    assert_eq!(write("N7:0", WriteValue::Bool(true)), Err(Refused(4)));
+    assert_eq!(write("T4:0.PRE", WriteValue::Bool(true)), Err(Refused(4)));
+    assert_eq!(write("N7:0", WriteValue::Raw(&[1])), Err(Refused(5)));
+    assert_eq!(write("N7:0/3{2}", WriteValue::Raw(&[1, 2])), Err(Refused(3)));
+    assert_eq!(write_request(b"N7:0/3", WriteValue::Bool(true), requestor(), 0, &mut [0; 283]), Err(Refused(6)));
+}
+
+#[test]
+fn other_requests() {
+    let mut out = [0; REQUEST_ROOM];
+    let q = Requestor { vid: [1, 2], vsn: [3, 4, 5, 6] };
+    assert_eq!(requestor(), Requestor { vid: [9, 0x10], vsn: [9, 0x10, 0x19, 0x71] });
+    let head = [0x4B, 2, 0x20, 0x67, 0x24, 1, 7, 1, 2, 3, 4, 5, 6];
+    let message = processor_type_request(q, 0x0102, &mut out).unwrap();
+    assert_eq!((&message[..13], &message[13..]), (&head[..], &[6, 0, 2, 1, 3][..]));
+    assert_eq!(datalog_request(3, &mut out).unwrap().len(), 23);
+    assert_eq!(datalog_request(3, &mut out[..26]), Err(Refused(6)));
+
+    let info = sys0_info(b"1766-L32BXB");
+    assert_eq!((info.file_position, info.row_size, info.file_type, info.size_element), (233, 10, 3, 0x2B));
+    assert_eq!((info.size_len, info.size_const), (8, 19968));
+    assert_eq!(file_directory_size_request(info, q, 0, &mut out).unwrap()[17..], [0xA1, 8, 0, 3, 0x2B]);
+    assert_eq!(file_directory_read_request(3, 65_536, 80, q, 0, &mut out[..1]), Err(Refused(26)));
+    assert_eq!(file_directory_read_request(3, 65_535, 80, q, 0, &mut out[..1]), Err(Refused(6)));
+    assert!(file_directory_read_request(3, 65_535, 80, q, 0, &mut out).is_ok());
+}
+
+#[test]
+fn replies() {
+    let mut raw = [0; 64];
+    let mut out = [0; STATUS_ROOM];
+    assert_eq!(request_status(&raw, &mut []), Ok(None));
+    raw[58] = 0xF0;
+    raw[61] = 6;
+    assert_eq!(request_status(&raw, &mut out), Ok(Some("Error code in EXT STS Byte (EXT STS 0x06)")));
+    assert_eq!(request_status(&raw, &mut out[..95]), Err(Refused(6)));
+    assert_eq!(request_status(&[], &mut out), Ok(Some("Unknown Status")));
+    assert_eq!(error_text(0x70, &mut out), Ok(Some("Processor is in Program mode")));
+    assert_eq!(error_text(0x11, &mut out), Ok(None));
+    assert_eq!(parse_datalog(&raw), [6, 0, 0]);
+    assert_eq!(parse_datalog(&raw[..61]), []);
+    assert_eq!(parse_datalog(&[]), []);
+}
+
+#[test]
+fn directories() {
+    let info = sys0_info(b"");
+    let mut raw = [0; 63];
+    raw[61] = 0xA9;
+    assert_eq!(parse_file_directory_size(&raw, info), Ok(0xA9));
+    assert_eq!(parse_file_directory_size(&raw, sys0_info(b"1766")), Ok(0xA9 - 19968));
+    assert_eq!(parse_file_directory_size(&raw[..62], info), Err(Refused(25)));
+
+    let rows = [0xEE, 0x82, 4, 0, 0x81, 0, 0, 0x89, 6, 0];
+    let mut out = [ListedFile::default(); 2];
+    let files = parse_file_directory(1, 3, &rows, &mut out).unwrap();
+    assert_eq!(files[1], ListedFile { code: 0x89, number: 2, elements: 3, length: 6 });
+    assert_eq!((files.len(), files[0].file_type(), files[0].elements), (2, Some(FileType::O), 2));
+    let mut refused = |row_size, bytes: &[u8], room| parse_file_directory(1, row_size, bytes, &mut out[..room]).unwrap_err().0;
+    assert_eq!([refused(3, &[0; 65_536], 2), refused(0, &rows, 2), refused(3, &rows[..9], 2), refused(3, &rows, 1)], [7, 8, 9, 10]);
+}
+
+#[test]
+fn the_default_processor() {
+    let mut processor = default_processor();
+    let files: Vec<(String, u8, usize)> =
+        processor.files().map(|f| (f.file_type.to_string(), f.number, f.length / f.file_type.element_size())).collect();
+    let named: Vec<(&str, u8, usize)> = files.iter().map(|(t, n, e)| (t.as_str(), *n, *e)).collect();
+    let expected =
+        [("O", 0, 8), ("I", 1, 8), ("S", 2, 83), ("B", 3, 32), ("T", 4, 16), ("C", 5, 16), ("R", 6, 8), ("N", 7, 100), ("F", 8, 50)];
+    assert_eq!(named, expected);
+    assert_eq!(processor.data(), [0; 902]);
+
+    assert_eq!(processor.set(at(7, FileType::N, 0), Value::Whole(0x0F17)), Ok(()));
+    let reply = ask(&mut processor, &W1[6..]).unwrap();
+    assert_eq!(reply, [7, 9, 0x10, 9, 0x10, 0x19, 0x71, 0x4F, 0, 0x34, 0x12, 0x17, 0x0F]);
+    assert_eq!(ask(&mut processor, &command(&[0xA2, 2, 7, 0x89, 100, 0])).unwrap(), BAD);
+}
+
+#[test]
+fn w9_masked_write() {
+    let mut processor = Processor::new(&[file(FileType::N, 7, 2)], b"", &[]).unwrap();
+    for (element, word) in [0x2211, 0x0033].into_iter().enumerate() {
+        processor.set(at(7, FileType::N, element), Value::Whole(word)).unwrap();
+    }
+    ask(&mut processor, &command(&[0xAB, 3, 7, 0x89, 0, 0, 0xF0, 0x0F, 0xAA, 0xBB, 0xCC])).unwrap();
+    assert_eq!(processor.data(), [0xA1, 0x2B, 0xC3, 0]);
+}
+
+#[test]
+fn w10_directory_size() {
+    for (text, size) in [(&b"1766-LEC"[..], [0x43, 0x4F]), (b"1747-L552", [0xA9, 0])] {
+        let mut processor = Processor::new(&[], text, &[]).unwrap();
+        let info = sys0_info(text);
+        let reply = ask(&mut processor, &command(&[0xA1, 2, 0, info.file_type, info.size_element])).unwrap();
+        assert_eq!(reply[11..], size);
+    }
+}
+
+#[test]
+fn w11_datalog() {
+    let mut processor = Processor::new(&[], b"1747-L552", &[b"ABC", b""]).unwrap();
+    assert_eq!(ask(&mut processor, &command(&[0xA2, 0x6D, 0, 0xA5, 0xFF, 0])).unwrap(), BAD);
+    let mut out = [0; REQUEST_ROOM];
+    let request = datalog_request(0, &mut out).unwrap();
+    for (left, entry) in [(1, &b"ABC"[..]), (0, b"")] {
+        assert_eq!(&ask(&mut processor, &request[6..]).unwrap()[11..], entry);
+        assert_eq!(processor.datalog_left(), left);
+    }
+    assert_eq!(ask(&mut processor, &request[6..]).unwrap()[8], 0x10);
+}
+
+#[test]
+fn building_is_refused() {
+    let refused = |files: &[File], text: &[u8], log: &[&[u8]]| Processor::new(files, text, log).unwrap_err().0;
+    let n = |number, elements| file(FileType::N, number, elements);
+    assert_eq!(refused(&[file(FileType::PD, 7, 1)], b"", &[]), 11);
+    assert_eq!(refused(&[n(256, 1)], b"", &[]), 12);
+    assert_eq!(refused(&[n(7, 1), n(7, 1)], b"", &[]), 12);
+    assert_eq!(refused(&[], b"123456789012", &[]), 13);
+    assert_eq!(refused(&[], &[128], &[]), 13);
+    assert_eq!(refused(&[n(7, 32_768)], b"", &[]), 14);
+    assert_eq!(refused(&[n(7, u32::MAX)], b"", &[]), 14);
+    assert_eq!(refused(&[], b"", &[&[0; 256]]), 15);
+    assert_eq!(refused(&[], b"", &[&[0; 65_536 + 3]]), 15);
+    assert_eq!(refused(&[], b"", &[&[0][..]; 65]), 15);
+    let most: Vec<File> = (0..256).map(|number| n(number, 127)).collect();
+    let full = Processor::new(&most, b"12345678901", &[&[0; 255][..]; 64]).unwrap();
+    assert_eq!((full.files().count(), full.data().len(), full.datalog_left()), (256, 65_024, 64));
+}
+
+#[test]
+fn commands_are_refused() {
+    let mut processor = default_processor();
+    assert_eq!(processor.pccc(&W1[6..], &mut [0; 513]), Err(Refused(17)));
+    let refused = [&[][..], &[0, 1, 2, 3, 4], &[1, 2, 3, 4]].map(|c| ask(&mut processor, c).unwrap_err().0);
+    assert_eq!(refused, [18, 18, 18]);
+    assert_eq!(ask(&mut processor, &[1, 2, 3, 4, 5]).unwrap(), [1, 0x42, 0x10, 4, 5]);
+}
+
+#[test]
+fn elements_of_a_processor() {
+    let st = at(9, FileType::ST, 1);
+    let mut processor = Processor::new(&[file(FileType::ST, 9, 2), file(FileType::T, 4, 1)], b"", &[]).unwrap();
+    let mut text = [0; TEXT_ROOM];
+    assert_eq!(processor.set(st, Value::Text(b"arabica")), Ok(()));
+    assert_eq!(processor.read(st, &mut text), Ok(Element::Text(b"arabica")));
+    assert_eq!(processor.read(st, &mut text[..81]), Err(Refused(24)));
+    assert_eq!(processor.read(at(9, FileType::ST, 2), &mut text), Err(Refused(19)));
+    assert_eq!(processor.read(at(9, FileType::N, 0), &mut text), Err(Refused(19)));
+    assert_eq!(processor.set(at(4, FileType::T, 0), Value::Field(b"pre", 500)), Ok(()));
+    assert_eq!(processor.read(at(4, FileType::T, 0), &mut []), Ok(Element::Fields { word1: 500, word2: 0, status: 0 }));
+    let mut refused = |to, value| processor.set(to, value).unwrap_err().0;
+    let timer = at(4, FileType::T, 0);
+    assert_eq!(
+        [
+            refused(at(5, FileType::T, 0), Value::Whole(1)),
+            refused(timer, Value::Whole(1)),
+            refused(timer, Value::Field(b"X", 1)),
+            refused(timer, Value::Field(b"PRE", 40_000)),
+            refused(st, Value::Text(&[0; 83]))
+        ],
+        [19, 20, 21, 22, 23]
+    );
+}
+
+#[test]
+fn tags_cut_anyhow() {
+    let input = b"N7:0\nN7:0/3{2}\n\nT4:0.PRE\r\nB3/4095";
+    let whole = |size: usize| {
+        let (mut tags, mut out, mut at, mut answers) = (Tags::new(), [0; 5 * TAG_ROOM], 0, Vec::new());
+        while at < input.len() {
+            let (taken, said) = tags.feed(&input[at..(at + size).min(input.len())], &mut out);
+            answers.extend(said);
+            at += taken;
+        }
+        answers.extend(tags.finish(&mut out));
+        String::from_utf8(answers).unwrap()
+    };
+    let expected = "4B0220672401070910091019710F000000A20207890000\nrefused 3\nrefused 2\nrefused 2\n\
+                    4B0220672401070910091019710F000000A2020385FFFF0000\n";
+    for size in 1..40 {
+        assert_eq!(whole(size), expected, "in pieces of {size}");
+    }
+    assert_eq!(Tags::new().feed(input, &mut [0; 63]), (0, &b""[..]));
+    assert_eq!(Tags::default().finish(&mut [0; 64]), b"");
+}
