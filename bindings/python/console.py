@@ -43,9 +43,11 @@ def requester(text):
 
 def number(most=WIDE, least=0):
     def field(text):
-        if not re.fullmatch(rb"-?[0-9]+" if least < 0 else rb"[0-9]+", text) or not least <= int(text) <= most:
+        shape = re.fullmatch(rb"(-?)0*([0-9]{1,20})" if least < 0 else rb"()0*([0-9]{1,20})", text)
+        value = int(shape[1] + shape[2]) if shape else most + 1
+        if not least <= value <= most:
             raise Wrong("number")
-        return int(text)
+        return value
     return field
 
 
@@ -337,12 +339,6 @@ class Console:
             return b"refused %d" % refused.number
         except Wrong as wrong:
             return f"error {wrong}".encode()
-
-
-def answers(text):
-    console = Console()
-    lines = text.split(b"\n")
-    return [console.answer(line) for line in (lines if lines[-1] else lines[:-1])]
 
 
 def main():

@@ -16,7 +16,7 @@ def command(function):
 
 
 def load_tests(loader, tests, pattern):
-    tests.addTests(doctest.DocTestSuite(slc_link, optionflags=doctest.IGNORE_EXCEPTION_DETAIL))
+    tests.addTests(doctest.DocTestSuite(slc_link))
     return tests
 
 
