@@ -1,6 +1,7 @@
 """Tests of slc_link.py against the library: python3 -m unittest discover -s bindings/python"""
 import doctest
 import unittest
+from ctypes import Array, Structure, c_uint8, c_uint32
 
 import slc_link
 from slc_link import *
@@ -18,6 +19,13 @@ def command(function):
 def load_tests(loader, tests, pattern):
     tests.addTests(doctest.DocTestSuite(slc_link))
     return tests
+
+
+def numbers(value):
+    """All numbers in a struct of C."""
+    if isinstance(value, Structure):
+        return [n for name, _ in value._fields_ for n in numbers(getattr(value, name))]
+    return list(value) if isinstance(value, Array) else [value]
 
 
 class Refusing(unittest.TestCase):
@@ -251,6 +259,41 @@ class Processors(Refusing):
         self.refused(16, processor.pccc, W1[6:])
         self.refused(16, processor.read, 7, Code.N, 0)
         self.refused(16, processor.set, 7, Code.N, 0, 1)
+
+
+class TheCallsOfC(unittest.TestCase):
+    def test_kinds_that_there_are_not(self):
+        element = slc_link._output(2)
+        self.assertEqual(slc_link._call("slc_encode_element", Code.N, slc_link.slc_value(9), b"", element), 20)
+        request = slc_link._call("slc_write_request", b"N7:0", 9, b"12", slc_link._requestor(None), 0, slc_link._output(WRITE_ROOM))
+        self.assertEqual(request.address.refused, 4)
+
+    def test_a_refused_call_changes_and_tells_nothing_else(self):
+        before = bytes(range(256))
+        out = bytearray(before)
+
+        def lent(item, length):
+            return (item * length).from_buffer(out)
+
+        memory, text, files = lent(c_uint8, 256), lent(c_uint8, 81), (c_uint32 * 3 * 0)()
+        table, rows = lent(slc_link.slc_file_record, 9), lent(c_uint32 * 4, 1)
+        q, info = slc_link._requestor(None), slc_link._call("slc_sys0_info", b"")
+        for number, name, *values in (
+                (6, "slc_string_swap", bytes(257), memory),
+                (24, "slc_decode_element", Code.ST, bytes(84), text),
+                (2, "slc_parse_tag", b""),
+                (5, "slc_read_request", b"N7:0{128}", q, 0, memory),
+                (4, "slc_write_request", b"N7:0", slc_link.SLC_TRUE, b"", q, 0, memory),
+                (26, "slc_file_directory_read_request", 1, 65536, 1, q, 0, memory),
+                (25, "slc_parse_file_directory_size", b"", info),
+                (10, "slc_parse_file_directory", 0, 3, 2 * b"\x89\2\0", rows),
+                (14, "slc_new", files, b"", b"", 0, table, slc_link._output(901)),
+                (15, "slc_new", files, b"", b"", 1, table, slc_link._output(902)),
+                (16, "slc_pccc", slc_link.slc_processor(), table, memory, b"", W1[6:], slc_link._output(514)),
+                (16, "slc_read", slc_link.slc_processor(), table, slc_link.slc_spot(), text, b"", b"")):
+            answer = slc_link._call(name, *values)
+            self.assertEqual([n for n in numbers(answer) if n], [number], name)
+            self.assertEqual(out, before, name)
 
 
 class TheProgramTags(unittest.TestCase):
