@@ -6,7 +6,7 @@ ghost use Rattle.model.specs.Build.{newOf};
 ghost use Rattle.build.specs.Plans.{planOf, laidOf, raised};
 
 // The first `count` records of the files, from the table's start.
-fn lay(table: &mut [FileRecord], files: &[[u32; 3]], count: usize)
+pub fn lay(table: &mut [FileRecord], files: &[[u32; 3]], count: usize)
     ensures { λ _. ⌜ now (table .exit) ≡ laidOf (now (files .entry)) count (now (table .entry)) ⌝ }
 {
     let m = table::lesser(count, table.len());

@@ -1,0 +1,98 @@
+// The simulated processor's records of the C interface, and the covered parts of its exported calls: each calls a proved function and tells
+// its answer in numbers.
+ghost use mathlib.Core.Path.{_≡_};
+ghost use Rattle.build.specs.Plans.{finishOf};
+ghost use Rattle.core.specs.Calls.{respondOf, showOf};
+ghost use Rattle.model.specs.Pccc.{left};
+ghost use Rattle.link_processor.specs.Answers.{doneOf, numbered, builtOf, Finished};
+use build::Judged;
+use model::Answered;
+use model::Built;
+use model::Done;
+use model::Made;
+use model::Slc;
+use query::Query;
+use table::Seen;
+
+// What a command answers: 0 and the length of the reply, or the number of the refusal.
+#[repr(C)]
+pub struct SlcDone {
+    pub slc: Slc,
+    pub refused: u8,
+    pub length: usize,
+}
+
+// What building answers.
+#[repr(C)]
+pub struct SlcBuilt {
+    pub slc: Slc,
+    pub refused: u8,
+}
+
+pub fn done_of(d: Done) -> SlcDone
+    ensures { λ r. ⌜ r ≡ doneOf d ⌝ }
+{
+    let slc = d.slc;
+    let a = d.answered;
+    match a {
+        Answered::Refused(n) => SlcDone {
+            slc,
+            refused: n,
+            length: 0,
+        },
+        Answered::Reply(n) => SlcDone {
+            slc,
+            refused: 0,
+            length: n,
+        },
+    }
+}
+
+// A command that doesn't ask for the directory.
+pub fn respond(
+    slc: Slc,
+    s: Seen,
+    q: Query,
+    memory: &mut [u8],
+    log: &[u8],
+    command: &[u8],
+    reply: &mut [u8],
+) -> SlcDone
+    ensures { λ r. ⌜ left r (now (memory .exit)) (now (reply .exit)) ≡ numbered (respondOf slc s q (now (memory .entry)) (now (log .entry)) (now (command .entry)) (now (reply .entry))) ⌝ }
+{
+    done_of(core::respond(slc, s, q, memory, log, command, reply))
+}
+
+// A command for the directory, with which `d` begins.
+pub fn show(
+    slc: Slc,
+    s: Seen,
+    q: Query,
+    d: [u8; 2793],
+    memory: &mut [u8],
+    log: &[u8],
+    command: &[u8],
+    reply: &mut [u8],
+) -> SlcDone
+    ensures { λ r. ⌜ left r (now (memory .exit)) (now (reply .exit)) ≡ numbered (showOf slc s q d (now (memory .entry)) (now (log .entry)) (now (command .entry)) (now (reply .entry))) ⌝ }
+{
+    done_of(core::show(slc, s, q, d, memory, log, command, reply))
+}
+
+pub fn built_of(b: Built) -> SlcBuilt
+    ensures { λ r. ⌜ r ≡ builtOf b ⌝ }
+{
+    let slc = b.slc;
+    let m = b.made;
+    match m {
+        Made::Refused(n) => SlcBuilt { slc, refused: n },
+        Made::Ready => SlcBuilt { slc, refused: 0 },
+    }
+}
+
+// The last part of building: the processor, with its data cleared.
+pub fn finish(j: Judged, text: &[u8], count: usize, memory: &mut [u8]) -> SlcBuilt
+    ensures { λ r. ⌜ Finished (finishOf j (now (text .entry)) count (now (memory .entry))) r (now (memory .exit)) ⌝ }
+{
+    built_of(build::finish(j, text, count, memory))
+}

@@ -1,0 +1,73 @@
+-- `slc_pccc` is one more call of the shape of `processor::pccc` (crate `shapes`, `Choosing.antt`), with the answer in numbers.
+use mathlib.Core.Path.{_≡_, refl, ap, _∙_}
+use mathlib.Core.Bool.{Bool, true, false, cond}
+use contract.Running.{givenOf, tables, tablesOf}
+use denote.Triple.Spec.{tripleOf}
+use denote.Triple.Table.{entered, cited}
+use Rattle.model.specs.declared.Done.{Done}
+use Rattle.model.specs.Pccc.{Left, pcccOf}
+use Rattle.query.specs.declared.Query.{Query}
+use Rattle.query.specs.Query.{queryOf}
+use Rattle.query.proofs.asked.Symbol as ask-def
+use Rattle.query.proofs.asked.Symbol.{name as #query·asked}
+use Rattle.query.proofs.asked.Met as ask-thm
+use Rattle.table.specs.declared.Seen.{Seen}
+use Rattle.table.specs.Survey.{surveyOf}
+use Rattle.table.proofs.survey.Symbol as survey-def
+use Rattle.table.proofs.survey.Symbol.{name as #table·survey}
+use Rattle.table.proofs.survey.Met as survey-thm
+use Rattle.listing.specs.Listing.{directoryOf}
+use Rattle.listing.proofs.Filling.{Fills}
+use Rattle.listing.proofs.directory.Symbol as fill-def
+use Rattle.listing.proofs.directory.Symbol.{name as #listing·directory}
+use Rattle.listing.proofs.directory.Met as fill-thm
+use Rattle.core.specs.Calls.{respondOf, showOf}
+use Rattle.core.proofs.Right.{right}
+use Rattle.processor.proofs.Filled.{directory-fills}
+use Rattle.shapes.proofs.Asking.{Asks, Surveys, Cores, CoreDef, CallDef}
+use Rattle.shapes.proofs.Choosing.{Fits, Shows, ShowDef, choose-meets}
+use Rattle.link_processor.specs.declared.SlcDone.{SlcDone}
+use Rattle.link_processor.specs.Answers.{numbered}
+use Rattle.link_processor.proofs.show.Symbol as show-def
+use Rattle.link_processor.proofs.show.Symbol.{name as #link-processor·show}
+use Rattle.link_processor.proofs.show.Met as show-thm
+use Rattle.link_processor.proofs.respond.Symbol as core-def
+use Rattle.link_processor.proofs.respond.Symbol.{name as #link-processor·respond}
+use Rattle.link_processor.proofs.respond.Met as core-thm
+use Rattle.slc_link.proofs.Answering.{done}
+use Rattle.slc_link.proofs.simulator.slc_pccc.Key.{name as #slc-link·slc-pccc}
+use Rattle.slc_link.proofs.simulator.slc_pccc as self
+use Rattle.slc_link.proofs.simulator.slc_pccc.Statement as stated
+use Rattle.slc_link.proofs.simulator.slc_pccc.Code as code
+
+-- the definitions of the call and its parts, their answers in numbers
+abbrev shown : ShowDef SlcDone
+shown slc s q d m l c p = numbered (showOf slc s q d m l c p)
+
+abbrev out : CoreDef SlcDone
+out slc s q m l c p = numbered (respondOf slc s q m l c p)
+
+abbrev def : CallDef SlcDone
+def slc t m l c p = numbered (pcccOf slc t m l c p)
+
+either : (b : Bool) (x y : Left Done) → cond b (numbered x) (numbered y) ≡ numbered (cond b x y)
+either true x y = refl
+either false x y = refl
+
+fits : Fits queryOf directoryOf shown out def
+fits slc t m l c p =
+    let q : Query = queryOf slc c in
+    let s : Seen = surveyOf t (slc .files) (q .number) in
+    either (q .directory) (showOf slc s q (directoryOf t (slc .files) q s) m l c p) (respondOf slc s q m l c p) ∙ ap numbered (right directoryOf directory-fills slc t m l c p)
+
+pub slc-pccc-spec : {M : Type 1} → stated.statement M
+unfolding code.routine tablesOf
+slc-pccc-spec 𝓤 H 𝓜 𝓖 𝓡 =
+    entered 𝓤 H (tripleOf 𝓤 H (𝓖 .A) self.signature (self.spec 𝓤 H (𝓖 .A) (𝓜 .mem) (𝓡 .run)))
+    (tables 𝓤 H 𝓜 𝓡 code.env .C) (tables 𝓤 H 𝓜 𝓡 code.env .Λ) #slc-link·slc-pccc code.function (code.unfolded 𝓤 H 𝓜 𝓡)
+    (choose-meets done queryOf directoryOf shown out def fits #query·asked #table·survey #listing·directory #link-processor·show #link-processor·respond 𝓤 H (𝓖 .A) (givenOf 𝓤 H 𝓜 𝓖) (tablesOf 𝓤 H 𝓜 (tables 𝓤 H 𝓜 𝓡 code.env))
+    (cited 𝓤 H (Asks 𝓤 H (𝓖 .A) queryOf) 𝓜 𝓡 code.env #query·asked ask-def.routine code.calls-query·asked (ask-thm.met 𝓤 H 𝓜 𝓖 𝓡))
+    (cited 𝓤 H (Surveys 𝓤 H (𝓖 .A)) 𝓜 𝓡 code.env #table·survey survey-def.routine code.calls-table·survey (survey-thm.met 𝓤 H 𝓜 𝓖 𝓡))
+    (cited 𝓤 H (Fills 𝓤 H (𝓖 .A) directoryOf) 𝓜 𝓡 code.env #listing·directory fill-def.routine code.calls-listing·directory (fill-thm.met 𝓤 H 𝓜 𝓖 𝓡))
+    (cited 𝓤 H (Shows done 𝓤 H (𝓖 .A) shown) 𝓜 𝓡 code.env #link-processor·show show-def.routine code.calls-link-processor·show (show-thm.met 𝓤 H 𝓜 𝓖 𝓡))
+    (cited 𝓤 H (Cores done 𝓤 H (𝓖 .A) out) 𝓜 𝓡 code.env #link-processor·respond core-def.routine code.calls-link-processor·respond (core-thm.met 𝓤 H 𝓜 𝓖 𝓡)))
