@@ -40,7 +40,7 @@ fn wide(x: u16) -> usize
 }
 
 // 16: the table as it was surveyed, its files in the data memory, the type text, and the datalog.
-fn sound(slc: Slc, s: Seen, memory_length: usize, log: &[u8]) -> bool
+pub fn sound(slc: Slc, s: Seen, memory_length: usize, log: &[u8]) -> bool
     ensures { λ r. ⌜ r ≡ soundBy slc s «memory_length» (now (log .entry)) ⌝ }
 {
     if !s.sound {

@@ -1,5 +1,7 @@
 // The simulated processor's records of the C interface, and the covered parts of its exported calls: each calls a proved function and tells
 // its answer in numbers.
+pub mod elements;
+
 ghost use mathlib.Core.Path.{_≡_};
 ghost use Rattle.build.specs.Plans.{finishOf};
 ghost use Rattle.core.specs.Calls.{respondOf, showOf};

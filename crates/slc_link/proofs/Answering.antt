@@ -1,10 +1,23 @@
--- What the exported calls answer, as the laws of shapes take it.
+-- What the exported calls want and answer, as the laws of shapes take it.
+use mir.Syntax.{w8, w64, tyInt, tcons, tnil}
+use mir.Val.{vint, vcons, vnil}
+use denote.Builtin.{u8}
+use denote.Plain.{uint-tells, uint-lawful, uint-makes}
 use denote.Struct.Laws as LL
+use Rattle.table.proofs.Surveying.{State}
+use Rattle.access.proofs.Accessing.{Wanted}
 use Rattle.link_processor.proofs.SlcBuilt as B
 use Rattle.link_processor.proofs.SlcBuilt.Laws as B′
 use Rattle.link_processor.proofs.SlcDone as D
 use Rattle.link_processor.proofs.SlcDone.Laws as D′
-use Rattle.table.proofs.Surveying.{State}
+use Rattle.link_processor.proofs.elements.SlcElement as E
+use Rattle.link_processor.proofs.elements.SlcElement.Laws as E′
+use Rattle.link_processor.proofs.elements.SlcSetting as S
+use Rattle.link_processor.proofs.elements.SlcSetting.Laws as S′
+use Rattle.link_processor.proofs.elements.SlcSpot as P
+use Rattle.link_processor.proofs.elements.SlcSpot.Laws as P′
+use Rattle.link_processor.proofs.elements.SlcValue as A
+use Rattle.link_processor.proofs.elements.SlcValue.Laws as A′
 
 abbrev pub built : State
 built = record {
@@ -24,4 +37,51 @@ done = record {
   tells = LL.tells D.the-type D′.the-laws;
   typed = λ 𝓤 H A W d w is. LL.lawful D.the-type D′.the-laws 𝓤 H A W .typed d _ is .0;
   makes = λ 𝓤 H A W. LL.makes D.the-type D′.the-plain 𝓤 H A;
+}
+
+abbrev pub element : State
+element = record {
+  row = E.the-row;
+  σ = E′.mir;
+  val = LL.val E.the-type E′.the-laws;
+  tells = LL.tells E.the-type E′.the-laws;
+  typed = λ 𝓤 H A W d w is. LL.lawful E.the-type E′.the-laws 𝓤 H A W .typed d _ is .0;
+  makes = λ 𝓤 H A W. LL.makes E.the-type E′.the-plain 𝓤 H A;
+}
+
+-- a number
+abbrev pub number : State
+number = record {
+  row = u8;
+  σ = tyInt w8;
+  val = vint w8;
+  tells = uint-tells w8;
+  typed = λ 𝓤 H A W d w is. uint-lawful 𝓤 H A W w8 .typed d _ is .0;
+  makes = λ 𝓤 H A W. uint-makes 𝓤 H A W w8;
+}
+
+abbrev pub spot : Wanted
+spot = record {
+  type = P.the-row;
+  name = P.struct .name;
+  fields = tcons (tyInt w8) (tcons (tyInt w64) tnil);
+  number = λ d. d .number;
+  values = λ d. vcons (vint w8 (d .code)) (vcons (vint w64 (d .element)) vnil);
+  tells = LL.tells P.the-type P′.the-laws;
+  small = λ d w is. LL.owed P.the-type P′.the-laws d _ is .0 .1;
+  typed = λ 𝓤 H A W d w is. LL.lawful P.the-type P′.the-laws 𝓤 H A W .typed d _ is .0;
+  makes = λ 𝓤 H A W. LL.makes P.the-type P′.the-plain 𝓤 H A;
+}
+
+abbrev pub setting : Wanted
+setting = record {
+  type = S.the-row;
+  name = S.struct .name;
+  fields = tcons (tyInt w8) (tcons (tyInt w64) (tcons A′.mir tnil));
+  number = λ d. d .number;
+  values = λ d. vcons (vint w8 (d .code)) (vcons (vint w64 (d .element)) (vcons (LL.val A.the-type A′.the-laws (d .value)) vnil));
+  tells = LL.tells S.the-type S′.the-laws;
+  small = λ d w is. LL.owed S.the-type S′.the-laws d _ is .0 .1;
+  typed = λ 𝓤 H A W d w is. LL.lawful S.the-type S′.the-laws 𝓤 H A W .typed d _ is .0;
+  makes = λ 𝓤 H A W. LL.makes S.the-type S′.the-plain 𝓤 H A;
 }

@@ -1,10 +1,17 @@
 // The simulated processor, over the lent table.
-ghost use mathlib.Core.Path.{_≡_};
+ghost use lib.ListN.{length};
 ghost use Rattle.build.specs.Plans.{planOf};
+ghost use Rattle.file_type.specs.Table.{ofCode};
 ghost use Rattle.model.specs.Build.{newOf};
+ghost use Rattle.model.specs.Plain.{stateOf};
+ghost use Rattle.link_processor.specs.Access.{readIn, setIn};
 ghost use Rattle.link_processor.specs.Answers.{SaysInNumbers, Raises};
+ghost use Rattle.link_processor.specs.Elements.{StoresInNumbers, ReadsInNumbers};
 use link_processor::SlcBuilt;
 use link_processor::SlcDone;
+use link_processor::elements::SlcElement;
+use link_processor::elements::SlcSetting;
+use link_processor::elements::SlcSpot;
 use model::FileRecord;
 use model::Slc;
 
@@ -45,4 +52,36 @@ pub extern "C" fn slc_pccc(
     } else {
         link_processor::respond(slc, s, q, memory, log, command, reply)
     }
+}
+
+// Reads an element; text is written to the lent memory, which needs 82 bytes for it. 16, 19 or 24 where it is refused.
+#[no_mangle]
+pub extern "C" fn slc_read(
+    slc: Slc,
+    table: &[FileRecord],
+    at: SlcSpot,
+    text: &mut [u8],
+    log: &[u8],
+    memory: &[u8],
+) -> SlcElement
+    ensures { λ r. ⌜ ReadsInNumbers (readIn (ofCode (at .code)) (stateOf slc (now (table .entry)) (now (memory .entry)) (now (log .entry))) at (length (now (text .entry)))) (now (text .entry)) r (now (text .exit)) ⌝ }
+{
+    let s = table::survey(table, slc.files, at.number);
+    link_processor::elements::read_element(slc, s, at, text, log, memory)
+}
+
+// Sets an element; `text` is the text of A and ST, or the name of the field. 16 or 19 to 23 where it is refused.
+#[no_mangle]
+pub extern "C" fn slc_set(
+    slc: Slc,
+    table: &[FileRecord],
+    to: SlcSetting,
+    memory: &mut [u8],
+    log: &[u8],
+    text: &[u8],
+) -> u8
+    ensures { λ r. ⌜ StoresInNumbers (setIn (ofCode (to .code)) (stateOf slc (now (table .entry)) (now (memory .entry)) (now (log .entry))) to (now (text .entry))) (now (memory .entry)) r (now (memory .exit)) ⌝ }
+{
+    let s = table::survey(table, slc.files, to.number);
+    link_processor::elements::set_element(slc, s, to, memory, log, text)
 }

@@ -1,0 +1,90 @@
+-- Element access by a type code.
+use Prim.Native.Nat.{ℕ}
+use mathlib.Core.Path.{_≡_, refl, ap, sym, subst, _∙_}
+use mathlib.Core.Bool.{Bool, true, false}
+use mathlib.Core.List.{List}
+use lib.ListN.{length}
+use Rattle.base.specs.Outcome.{Outcome, refused}
+use Rattle.decode.specs.declared.Element.{Element}
+use Rattle.decode.specs.Decode.{Says, refuses, Reads}
+use Rattle.element.specs.Access.{soundBy, readBy, setBy}
+use Rattle.element.proofs.Right.{sound-is, read-is, set-is}
+use Rattle.encode.specs.declared.Stored.{Stored}
+use Rattle.encode.specs.declared.Value.{Value}
+use Rattle.encode.specs.Encode.{encoded, Stores}
+use Rattle.file_type.specs.declared.FileType.{FileType}
+use Rattle.file_type.specs.declared.Known.{Known}
+use Rattle.file_type.specs.declared.Known.the-variants as known
+use Rattle.file_type.specs.Table.{ofCode}
+use Rattle.model.specs.declared.FileRecord.{FileRecord}
+use Rattle.model.specs.declared.Slc.{Slc}
+use Rattle.model.specs.Plain.{stateOf}
+use Rattle.table.specs.declared.Seen.{Seen}
+use Rattle.table.specs.Survey.{surveyOf}
+use Rattle.link_processor.specs.declared.elements.SlcElement.{SlcElement}
+use Rattle.link_processor.specs.declared.elements.SlcSetting.{SlcSetting}
+use Rattle.link_processor.specs.declared.elements.SlcSpot.{SlcSpot}
+use Rattle.link_processor.specs.declared.elements.SlcValue.{SlcValue}
+use Rattle.link_processor.specs.Access.{noType, readIn, setIn, spotOf, settingOf, readInBy, setInBy}
+use Rattle.link_processor.specs.Elements.{valueOf, storedNumber, refusalOf, numbersOf, StoresInNumbers, ReadsInNumbers}
+
+pub there-sound : (x ok : Bool) → ok ≡ x → ok ≡ true → 19 ≡ noType x
+there-sound x ok e t = ap noType (sym t ∙ e)
+
+pub there-unsound : (x ok : Bool) → ok ≡ x → ok ≡ false → 16 ≡ noType x
+there-unsound x ok e t = ap noType (sym t ∙ e)
+
+-- what is said in numbers follows from what is said
+pub in-numbers : (o : Says) (l l′ : List ℕ) (e : Element) (r : SlcElement) → Reads o l e l′ → r ≡ numbersOf e → ReadsInNumbers o l r l′
+in-numbers o l l′ e r h n = record { answer = n ∙ ap numbersOf (h .answer); memory = h .memory }
+
+pub in-a-number : (o : Outcome) (l l′ : List ℕ) (s : Stored) (r : ℕ) → Stores o l s l′ → r ≡ storedNumber s → StoresInNumbers o l r l′
+in-a-number o l l′ s r h n = record { answer = n ∙ ap storedNumber (h .answer); memory = h .memory }
+
+pub encoded-in : (t : FileType) (w : SlcValue) (v : Value) (text l l′ : List ℕ) (s : Stored) (r : ℕ) → v ≡ valueOf t w → Stores (encoded t v text l) l s l′ → r ≡ storedNumber s
+    → StoresInNumbers (encoded t (valueOf t w) text l) l r l′
+encoded-in t w v text l l′ s r e h n = in-a-number _ _ _ s r (subst (λ (y : Value). Stores (encoded t y text l) l s l′) e h) n
+
+module _ (slc : Slc) (s : Seen) (code : ℕ) (k : Known) (e : k ≡ ofCode code) where
+  module _ (w : SlcSpot) (c : code ≡ w .code) (memory log text text′ : List ℕ) (r : SlcElement) where
+    pub read-known : (t : FileType) (x : Element) → k ≡ known.Is t → Reads (readBy slc s (spotOf t w) memory log (length text)) text x text′ → r ≡ numbersOf x
+        → ReadsInNumbers (readInBy (ofCode (w .code)) slc s w memory log (length text)) text r text′
+    unfolding readInBy
+    read-known t x i h n = subst (λ (z : Known). ReadsInNumbers (readInBy z slc s w memory log (length text)) text r text′) (sym i ∙ e ∙ ap ofCode c) (in-numbers _ _ _ x r h n)
+
+    pub read-unknown : (n : ℕ) → k ≡ known.Unknown → n ≡ noType (soundBy slc s (length memory) log) → r ≡ refusalOf n → text′ ≡ text
+        → ReadsInNumbers (readInBy (ofCode (w .code)) slc s w memory log (length text)) text r text′
+    unfolding readInBy
+    read-unknown n i h m l =
+        subst (λ (z : Known). ReadsInNumbers (readInBy z slc s w memory log (length text)) text r text′) (sym i ∙ e ∙ ap ofCode c)
+        (record { answer = m ∙ ap refusalOf h; memory = l })
+
+  module _ (w : SlcSetting) (c : code ≡ w .code) (memory log text memory′ : List ℕ) (r : ℕ) where
+    pub set-known : (t : FileType) (v : Value) (x : Stored) → k ≡ known.Is t → v ≡ valueOf t (w .value)
+        → Stores (setBy slc s (record { number = w .number; «file_type» = t; element = w .element; value = v }) memory log text) memory x memory′ → r ≡ storedNumber x
+        → StoresInNumbers (setInBy (ofCode (w .code)) slc s w memory log text) memory r memory′
+    unfolding setInBy
+    set-known t v x i hv h n =
+        subst (λ (z : Known). StoresInNumbers (setInBy z slc s w memory log text) memory r memory′) (sym i ∙ e ∙ ap ofCode c)
+        (in-a-number _ _ _ x r (subst (λ (y : Value). Stores (setBy slc s (record { number = w .number; «file_type» = t; element = w .element; value = y }) memory log text) memory x memory′) hv h) n)
+
+    pub set-unknown : k ≡ known.Unknown → r ≡ noType (soundBy slc s (length memory) log) → memory′ ≡ memory
+        → StoresInNumbers (setInBy (ofCode (w .code)) slc s w memory log text) memory r memory′
+    unfolding setInBy
+    set-unknown i h l =
+        subst (λ (z : Known). StoresInNumbers (setInBy z slc s w memory log text) memory r memory′) (sym i ∙ e ∙ ap ofCode c)
+        (record { answer = h; memory = l })
+
+-- ---- with the survey of the table
+module _ (slc : Slc) (table : List FileRecord) (memory log : List ℕ) where
+  pub read-in-is : (k : Known) (w : SlcSpot) (room : ℕ)
+      → readInBy k slc (surveyOf table (slc .files) (w .number)) w memory log room ≡ readIn k (stateOf slc table memory log) w room
+  unfolding readInBy readIn
+  read-in-is known.Unknown w room = ap (λ (b : Bool). refuses (noType b)) (sound-is slc table memory log (w .number))
+  read-in-is (known.Is t) w room = read-is slc table memory log (spotOf t w) room
+
+  pub set-in-is : (k : Known) (w : SlcSetting) (text : List ℕ)
+      → setInBy k slc (surveyOf table (slc .files) (w .number)) w memory log text ≡ setIn k (stateOf slc table memory log) w text
+  unfolding setInBy setIn
+  set-in-is known.Unknown w text = ap (λ (b : Bool). refused (noType b)) (sound-is slc table memory log (w .number))
+  set-in-is (known.Is t) w text = set-is slc table memory log (settingOf t w) text

@@ -1,0 +1,90 @@
+-- Values and elements in numbers.
+use Prim.Native.Nat.{ℕ, _-_, _%_}
+use mathlib.Core.Path.{_≡_, refl, ap, sym, _∙_}
+use mathlib.Core.Bool.{Bool, true, false, cond}
+use borrow.Author.Tests.{eq-eqb, ne-eqb}
+use lib.Dec.{eqb}
+use lib.IntN.{ℤ, pos, negsuc}
+use mir.Syntax.{Width, w16, w32, w64}
+use mir.Val.{SFits, toZ, ofZ}
+use mir.ValLaws.{toZ-ofZ}
+use Rattle.decode.specs.declared.Element.{Element}
+use Rattle.decode.specs.declared.Element.the-variants as element
+use Rattle.encode.specs.declared.kind.Kind.{Kind}
+use Rattle.encode.specs.declared.Value.{Value}
+use Rattle.encode.specs.declared.Value.the-variants as value
+use Rattle.encode.specs.Encode.{kindOf}
+use Rattle.file_type.specs.declared.FileType.{FileType}
+use Rattle.whole.specs.declared.Parted.{Parted}
+use Rattle.whole.specs.Whole.{twos, joined}
+use Rattle.link_processor.specs.declared.elements.SlcElement.{SlcElement}
+use Rattle.link_processor.specs.declared.elements.SlcValue.{SlcValue}
+use Rattle.link_processor.specs.Elements.{lowHalf, misfitFor, misfitOf, valueOf, refusalOf, numbersOf}
+
+-- ---- the low half of a number
+module _ (n : ℤ) (p : Parted) (f : SFits w64 n) (e : toZ w64 (ofZ w64 n) ≡ joined p) where
+  half : (b : Bool) → p .negative ≡ b → twos 18446744073709551615 (cond b (negsuc (p .size)) (pos (p .size))) % 4294967296 ≡ lowHalf n
+  unfolding lowHalf
+  half b t =
+      sym (ap (λ (z : ℤ). twos 18446744073709551615 z % 4294967296) (sym (toZ-ofZ w64 n f) ∙ e ∙ ap (λ (x : Bool). cond x (negsuc (p .size)) (pos (p .size))) t))
+
+  pub half-negative : p .negative ≡ true → (18446744073709551615 - p .size) % 4294967296 ≡ lowHalf n
+  half-negative t = half true t
+
+  pub half-positive : p .negative ≡ false → p .size % 4294967296 ≡ lowHalf n
+  half-positive t = half false t
+
+-- ---- values
+pub is-misfit : (k : Kind) (t : FileType) (x : Kind) → x ≡ kindOf t → x ≡ k → misfitFor k ≡ misfitOf t
+unfolding misfitOf
+is-misfit k t x e h = ap misfitFor (sym h ∙ e)
+
+module _ (t : FileType) (v : SlcValue) where
+  pub value-whole : SFits w64 (v .a) → v .kind ≡ 0 → value.Whole (toZ w64 (ofZ w64 (v .a))) ≡ valueOf t v
+  unfolding valueOf
+  value-whole f e = rw (eq-eqb (v .kind) 0 e, toZ-ofZ w64 (v .a) f) refl
+
+  module _ (n0 : v .kind ≡ 0 → ⊥) where
+    pub value-float : SFits w64 (v .a) → (b : ℕ) → b ≡ lowHalf (toZ w64 (ofZ w64 (v .a))) → v .kind ≡ 1 → value.Float b ≡ valueOf t v
+    unfolding valueOf
+    value-float f b h e = rw (ne-eqb (v .kind) 0 n0, eq-eqb (v .kind) 1 e) (ap value.Float (h ∙ ap lowHalf (toZ-ofZ w64 (v .a) f)))
+
+    module _ (n1 : v .kind ≡ 1 → ⊥) where
+      pub value-text : v .kind ≡ 2 → value.Text ≡ valueOf t v
+      unfolding valueOf
+      value-text e = rw (ne-eqb (v .kind) 0 n0, ne-eqb (v .kind) 1 n1, eq-eqb (v .kind) 2 e) refl
+
+      module _ (n2 : v .kind ≡ 2 → ⊥) where
+        pub value-words : SFits w64 (v .a) → SFits w64 (v .b) → SFits w64 (v .c) → v .kind ≡ 3
+            → value.Words (toZ w64 (ofZ w64 (v .a))) (toZ w64 (ofZ w64 (v .b))) (toZ w64 (ofZ w64 (v .c))) ≡ valueOf t v
+        unfolding valueOf
+        value-words f g h e =
+            rw (ne-eqb (v .kind) 0 n0, ne-eqb (v .kind) 1 n1, ne-eqb (v .kind) 2 n2, eq-eqb (v .kind) 3 e, toZ-ofZ w64 (v .a) f, toZ-ofZ w64 (v .b) g, toZ-ofZ w64 (v .c) h) refl
+
+        module _ (n3 : v .kind ≡ 3 → ⊥) where
+          pub value-field : SFits w64 (v .a) → v .kind ≡ 4 → value.Field (toZ w64 (ofZ w64 (v .a))) ≡ valueOf t v
+          unfolding valueOf
+          value-field f e = rw (ne-eqb (v .kind) 0 n0, ne-eqb (v .kind) 1 n1, ne-eqb (v .kind) 2 n2, ne-eqb (v .kind) 3 n3, eq-eqb (v .kind) 4 e, toZ-ofZ w64 (v .a) f) refl
+
+          pub value-other : (r : Value) → r ≡ misfitOf t → (v .kind ≡ 4 → ⊥) → r ≡ valueOf t v
+          unfolding valueOf
+          value-other r h n4 = rw (ne-eqb (v .kind) 0 n0, ne-eqb (v .kind) 1 n1, ne-eqb (v .kind) 2 n2, ne-eqb (v .kind) 3 n3, ne-eqb (v .kind) 4 n4) h
+
+-- ---- what is read
+module _ (e : Element) where
+  pub read-refused : (n : ℕ) (r : SlcElement) → r ≡ refusalOf n → e ≡ element.Refused n → r ≡ numbersOf e
+  read-refused n r i h = i ∙ sym (ap numbersOf h)
+
+  pub read-whole : (z : ℤ) → SFits w32 z → e ≡ element.Whole z
+      → record { refused = 0; kind = 0; whole = toZ w32 (ofZ w32 z); bits = 0; length = 0; word1 = pos 0; word2 = pos 0; status = 0 } ≡ numbersOf e
+  read-whole z f h = rw (toZ-ofZ w32 z f) (sym (ap numbersOf h))
+
+  pub read-float : (b : ℕ) → e ≡ element.Float b → numbersOf (element.Float b) ≡ numbersOf e
+  read-float b h = sym (ap numbersOf h)
+
+  pub read-text : (k : ℕ) → e ≡ element.Text k → numbersOf (element.Text k) ≡ numbersOf e
+  read-text k h = sym (ap numbersOf h)
+
+  pub read-fields : (x y : ℤ) (b : ℕ) → SFits w16 x → SFits w16 y → e ≡ element.Fields x y b
+      → record { refused = 0; kind = 4; whole = pos 0; bits = 0; length = 0; word1 = toZ w16 (ofZ w16 x); word2 = toZ w16 (ofZ w16 y); status = b } ≡ numbersOf e
+  read-fields x y b f g h = rw (toZ-ofZ w16 x f, toZ-ofZ w16 y g) (sym (ap numbersOf h))

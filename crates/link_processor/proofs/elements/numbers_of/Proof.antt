@@ -1,0 +1,20 @@
+use Rattle.link_processor.proofs.Numbers.{read-refused, read-whole, read-float, read-text, read-fields}
+use borrow.Author.Needs.{needs}
+use Rattle.link_processor.proofs.elements.numbers_of.Statement.{statement}
+use Rattle.link_processor.proofs.elements.numbers_of.Tie as tie
+
+pub numbers-of-spec : {M : Type 1} → statement M
+numbers-of-spec =
+    tie.close
+    (tie.spec
+    (λ c. search needs)
+    (λ c κs. search needs)
+    (λ c. search needs)
+    (λ c. search needs)
+    (λ c. search needs)
+    (λ c. search needs)
+    (λ c. search (read-refused, needs))
+    (λ c. search (read-whole, needs))
+    (λ c. search (read-float, needs))
+    (λ c. search (read-text, needs))
+    (λ c. search (read-fields, needs)))

@@ -1,0 +1,279 @@
+// Elements: values and what is read as plain records.
+ghost use mathlib.Core.Path.{_≡_};
+ghost use mathlib.Core.Bool.{cond};
+ghost use lib.ListN.{length};
+ghost use Rattle.decode.specs.Decode.{decoded};
+ghost use Rattle.element.specs.Access.{soundBy};
+ghost use Rattle.encode.specs.Encode.{encoded};
+ghost use Rattle.file_type.specs.Table.{ofCode};
+ghost use Rattle.link_processor.specs.Elements.{lowHalf, misfitOf, valueOf, storedNumber, refusalOf, numbersOf, StoresInNumbers, ReadsInNumbers};
+ghost use Rattle.link_processor.specs.Access.{noType, readInBy, setInBy};
+use decode::Element;
+use element::Setting;
+use element::Spot;
+use encode::Stored;
+use encode::Value;
+use encode::kind::Kind;
+use file_type::FileType;
+use file_type::Known;
+use model::Slc;
+use table::Seen;
+
+const WHOLE: u8 = 0;
+
+const FLOAT: u8 = 1;
+
+const TEXT: u8 = 2;
+
+const WORDS: u8 = 3;
+
+const FIELD: u8 = 4;
+
+// A value to set, by its kind. Text, and the name of a field, stand in lent memory.
+#[repr(C)]
+pub struct SlcValue {
+    pub kind: u8,
+    pub a: i64,
+    pub b: i64,
+    pub c: i64,
+}
+
+// What reading an element answers, by its kind. Text stands in the lent memory.
+#[repr(C)]
+pub struct SlcElement {
+    pub refused: u8,
+    pub kind: u8,
+    pub whole: i32,
+    pub bits: u32,
+    pub length: usize,
+    pub word1: i16,
+    pub word2: i16,
+    pub status: u16,
+}
+
+// An element that is to be read: a file's number, its type code, and the place in it.
+#[repr(C)]
+pub struct SlcSpot {
+    pub number: u16,
+    pub code: u8,
+    pub element: usize,
+}
+
+// An element that is to be set, and the value.
+#[repr(C)]
+pub struct SlcSetting {
+    pub number: u16,
+    pub code: u8,
+    pub element: usize,
+    pub value: SlcValue,
+}
+
+// The low 32 bits of a number in two's complement.
+fn low_half(n: i64) -> u32
+    ensures { λ r. ⌜ r ≡ lowHalf n ⌝ }
+{
+    let p = whole::apart(n);
+    let size = p.size;
+    if p.negative {
+        return ((0xFFFF_FFFF_FFFF_FFFF - size) % 0x1_0000_0000) as u32;
+    }
+    (size % 0x1_0000_0000) as u32
+}
+
+// A value that doesn't suit the type.
+fn misfit(t: FileType) -> Value
+    ensures { λ r. ⌜ r ≡ misfitOf t ⌝ }
+{
+    let k = encode::kind::kind_of(t);
+    match k {
+        Kind::Word => Value::Text,
+        Kind::Long => Value::Text,
+        Kind::Float => Value::Text,
+        Kind::Ascii => Value::Float(0),
+        Kind::Line => Value::Float(0),
+        Kind::Fields => Value::Text,
+        Kind::Other => Value::Text,
+    }
+}
+
+// The value; one of an unknown kind suits no type.
+pub fn value_of(t: FileType, v: SlcValue) -> Value
+    ensures { λ r. ⌜ r ≡ valueOf t v ⌝ }
+{
+    let kind = v.kind;
+    if kind == WHOLE {
+        return Value::Whole(v.a);
+    }
+    if kind == FLOAT {
+        return Value::Float(low_half(v.a));
+    }
+    if kind == TEXT {
+        return Value::Text;
+    }
+    if kind == WORDS {
+        return Value::Words(v.a, v.b, v.c);
+    }
+    if kind == FIELD {
+        return Value::Field(v.a);
+    }
+    misfit(t)
+}
+
+pub fn stored_number(s: Stored) -> u8
+    ensures { λ r. ⌜ r ≡ storedNumber s ⌝ }
+{
+    match s {
+        Stored::Refused(n) => n,
+        Stored::Done => 0,
+    }
+}
+
+// Nothing but the number of a refusal.
+pub fn refusal(n: u8) -> SlcElement
+    ensures { λ r. ⌜ r ≡ refusalOf n ⌝ }
+{
+    SlcElement {
+        refused: n,
+        kind: 0,
+        whole: 0,
+        bits: 0,
+        length: 0,
+        word1: 0,
+        word2: 0,
+        status: 0,
+    }
+}
+
+pub fn numbers_of(e: Element) -> SlcElement
+    ensures { λ r. ⌜ r ≡ numbersOf e ⌝ }
+{
+    match e {
+        Element::Refused(n) => refusal(n),
+        Element::Whole(n) => SlcElement {
+            refused: 0,
+            kind: WHOLE,
+            whole: n,
+            bits: 0,
+            length: 0,
+            word1: 0,
+            word2: 0,
+            status: 0,
+        },
+        Element::Float(b) => SlcElement {
+            refused: 0,
+            kind: FLOAT,
+            whole: 0,
+            bits: b,
+            length: 0,
+            word1: 0,
+            word2: 0,
+            status: 0,
+        },
+        Element::Text(n) => SlcElement {
+            refused: 0,
+            kind: TEXT,
+            whole: 0,
+            bits: 0,
+            length: n,
+            word1: 0,
+            word2: 0,
+            status: 0,
+        },
+        Element::Fields(first, second, bits) => SlcElement {
+            refused: 0,
+            kind: FIELD,
+            whole: 0,
+            bits: 0,
+            length: 0,
+            word1: first,
+            word2: second,
+            status: bits,
+        },
+    }
+}
+
+// The bytes of one element, set from a value.
+pub fn encode_element(t: FileType, v: SlcValue, text: &[u8], element: &mut [u8]) -> u8
+    ensures { λ r. ⌜ StoresInNumbers (encoded t (valueOf t v) (now (text .entry)) (now (element .entry))) (now (element .entry)) r (now (element .exit)) ⌝ }
+{
+    stored_number(encode::encode_element(t, value_of(t, v), text, element))
+}
+
+// The bytes of one element, read.
+pub fn decode_element(t: FileType, element: &[u8], text: &mut [u8]) -> SlcElement
+    ensures { λ r. ⌜ ReadsInNumbers (decoded t (now (element .entry)) (length (now (text .entry)))) (now (text .entry)) r (now (text .exit)) ⌝ }
+{
+    numbers_of(decode::decode_element(t, element, text))
+}
+
+// A code that no type has: 16, then 19.
+fn no_type(slc: Slc, s: Seen, memory_length: usize, log: &[u8]) -> u8
+    ensures { λ r. ⌜ r ≡ noType (soundBy slc s «memory_length» (now (log .entry))) ⌝ }
+{
+    if element::sound(slc, s, memory_length, log) {
+        return 19;
+    }
+    16
+}
+
+// Reads an element, by what the survey of the file table tells.
+pub fn read_element(
+    slc: Slc,
+    s: Seen,
+    w: SlcSpot,
+    text: &mut [u8],
+    log: &[u8],
+    memory: &[u8],
+) -> SlcElement
+    ensures { λ r. ⌜ ReadsInNumbers (readInBy (ofCode (w .code)) slc s w (now (memory .entry)) (now (log .entry)) (length (now (text .entry)))) (now (text .entry)) r (now (text .exit)) ⌝ }
+{
+    let k = FileType::from_code(w.code);
+    match k {
+        Known::Is(t) => numbers_of(element::read_element(
+            slc,
+            s,
+            Spot {
+                number: w.number,
+                file_type: t,
+                element: w.element,
+            },
+            text,
+            log,
+            memory,
+        )),
+        Known::Unknown => refusal(no_type(slc, s, memory.len(), log)),
+    }
+}
+
+// Sets an element, by what the survey of the file table tells.
+pub fn set_element(
+    slc: Slc,
+    s: Seen,
+    w: SlcSetting,
+    memory: &mut [u8],
+    log: &[u8],
+    text: &[u8],
+) -> u8
+    ensures { λ r. ⌜ StoresInNumbers (setInBy (ofCode (w .code)) slc s w (now (memory .entry)) (now (log .entry)) (now (text .entry))) (now (memory .entry)) r (now (memory .exit)) ⌝ }
+{
+    let k = FileType::from_code(w.code);
+    match k {
+        Known::Is(t) => {
+            let v = w.value;
+            stored_number(element::set_element(
+                slc,
+                s,
+                Setting {
+                    number: w.number,
+                    file_type: t,
+                    element: w.element,
+                    value: value_of(t, v),
+                },
+                memory,
+                log,
+                text,
+            ))
+        }
+        Known::Unknown => no_type(slc, s, memory.len(), log),
+    }
+}
