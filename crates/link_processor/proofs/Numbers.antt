@@ -1,20 +1,26 @@
 -- Values and elements in numbers.
-use Prim.Native.Nat.{ℕ, _-_, _%_}
+use Prim.Native.Nat.{ℕ, _-_, _%_, _≤_, _<_}
 use mathlib.Core.Path.{_≡_, refl, ap, sym, _∙_}
 use mathlib.Core.Bool.{Bool, true, false, cond}
+use mathlib.Core.List.{List}
+use native.Mathlib.Omega.{arith}
 use borrow.Author.Tests.{eq-eqb, ne-eqb}
-use lib.Dec.{eqb}
+use lib.Dec.{ltb}
 use lib.IntN.{ℤ, pos, negsuc}
-use mir.Syntax.{Width, w16, w32, w64}
+use lib.ListN.{length}
+use mir.Syntax.{w16, w32, w64}
 use mir.Val.{SFits, toZ, ofZ}
 use mir.ValLaws.{toZ-ofZ}
+use Rattle.base.specs.Outcome.{refused}
 use Rattle.decode.specs.declared.Element.{Element}
 use Rattle.decode.specs.declared.Element.the-variants as element
 use Rattle.encode.specs.declared.kind.Kind.{Kind}
+use Rattle.encode.specs.declared.kind.Kind.the-variants as kind
 use Rattle.encode.specs.declared.Value.{Value}
 use Rattle.encode.specs.declared.Value.the-variants as value
-use Rattle.encode.specs.Encode.{kindOf}
+use Rattle.encode.specs.Encode.{kindOf, encodeAs, encoded}
 use Rattle.file_type.specs.declared.FileType.{FileType}
+use Rattle.file_type.specs.Table.{row}
 use Rattle.whole.specs.declared.Parted.{Parted}
 use Rattle.whole.specs.Whole.{twos, joined}
 use Rattle.link_processor.specs.declared.elements.SlcElement.{SlcElement}
@@ -88,3 +94,22 @@ module _ (e : Element) where
   pub read-fields : (x y : ℤ) (b : ℕ) → SFits w16 x → SFits w16 y → e ≡ element.Fields x y b
       → record { refused = 0; kind = 4; whole = pos 0; bits = 0; length = 0; word1 = toZ w16 (ofZ w16 x); word2 = toZ w16 (ofZ w16 y); status = b } ≡ numbersOf e
   read-fields x y b f g h = rw (toZ-ofZ w16 x f, toZ-ofZ w16 y g) (sym (ap numbersOf h))
+
+-- ---- "Another kind suits no type": 20, in its place
+module _ (t : FileType) (text bytes : List ℕ) where
+  misfit-refused : (k : Kind) → encodeAs k t (misfitFor k) text bytes ≡ refused 20
+  misfit-refused kind.Word = refl
+  misfit-refused kind.Long = refl
+  misfit-refused kind.Float = refl
+  misfit-refused kind.Ascii = refl
+  misfit-refused kind.Line = refl
+  misfit-refused kind.Fields = refl
+  misfit-refused kind.Other = refl
+
+  pub other-kind : (v : SlcValue) → 5 ≤ v .kind → encoded t (valueOf t v) text bytes ≡ cond (ltb (length bytes) (row t .size)) (refused 19) (refused 20)
+  unfolding encoded misfitOf
+  other-kind v h =
+      let other : (n : ℕ) → n < 5 → v .kind ≡ n → ⊥ = λ n l e. omega (arith, h, l, e) in
+      ap (λ (x : Value). encoded t x text bytes)
+      (sym (value-other t v (other 0 (omega arith)) (other 1 (omega arith)) (other 2 (omega arith)) (other 3 (omega arith)) (misfitOf t) refl (other 4 (omega arith))))
+      ∙ ap (cond (ltb (length bytes) (row t .size)) (refused 19)) (misfit-refused (kindOf t))
