@@ -7,6 +7,8 @@ use lib.ListN.{length}
 use Rattle.base.specs.Outcome.{Outcome, refused}
 use Rattle.decode.specs.declared.Element.{Element}
 use Rattle.decode.specs.Decode.{Says, refuses, Reads}
+use Rattle.element.specs.declared.Setting.{Setting}
+use Rattle.element.specs.declared.Spot.{Spot}
 use Rattle.element.specs.Access.{soundBy, readBy, setBy}
 use Rattle.element.proofs.Right.{sound-is, read-is, set-is}
 use Rattle.encode.specs.declared.Stored.{Stored}
@@ -34,6 +36,9 @@ there-sound x ok e t = ap noType (sym t ∙ e)
 pub there-unsound : (x ok : Bool) → ok ≡ x → ok ≡ false → 16 ≡ noType x
 there-unsound x ok e t = ap noType (sym t ∙ e)
 
+pub is-setting : (t : FileType) (w : SlcSetting) (v : Value) → v ≡ valueOf t (w .value) → record { number = w .number; «file_type» = t; element = w .element; value = v } ≡ settingOf t w
+is-setting t w v e = ap (λ (x : Value). record { number = w .number; «file_type» = t; element = w .element; value = x }) e
+
 -- what is said in numbers follows from what is said
 pub in-numbers : (o : Says) (l l′ : List ℕ) (e : Element) (r : SlcElement) → Reads o l e l′ → r ≡ numbersOf e → ReadsInNumbers o l r l′
 in-numbers o l l′ e r h n = record { answer = n ∙ ap numbersOf (h .answer); memory = h .memory }
@@ -47,26 +52,27 @@ encoded-in t w v text l l′ s r e h n = in-a-number _ _ _ s r (subst (λ (y : V
 
 module _ (slc : Slc) (s : Seen) (code : ℕ) (k : Known) (e : k ≡ ofCode code) where
   module _ (w : SlcSpot) (c : code ≡ w .code) (memory log text text′ : List ℕ) (r : SlcElement) where
-    pub read-known : (t : FileType) (x : Element) → k ≡ known.Is t → Reads (readBy slc s (spotOf t w) memory log (length text)) text x text′ → r ≡ numbersOf x
+    pub read-known : (t : FileType) (at : Spot) (x : Element) → k ≡ known.Is t → at ≡ spotOf t w → Reads (readBy slc s at memory log (length text)) text x text′ → r ≡ numbersOf x
         → ReadsInNumbers (readInBy (ofCode (w .code)) slc s w memory log (length text)) text r text′
     unfolding readInBy
-    read-known t x i h n = subst (λ (z : Known). ReadsInNumbers (readInBy z slc s w memory log (length text)) text r text′) (sym i ∙ e ∙ ap ofCode c) (in-numbers _ _ _ x r h n)
+    read-known t at x i a h n =
+        subst (λ (z : Known). ReadsInNumbers (readInBy z slc s w memory log (length text)) text r text′) (sym i ∙ e ∙ ap ofCode c)
+        (in-numbers _ _ _ x r (subst (λ (y : Spot). Reads (readBy slc s y memory log (length text)) text x text′) a h) n)
 
     pub read-unknown : (n : ℕ) → k ≡ known.Unknown → n ≡ noType (soundBy slc s (length memory) log) → r ≡ refusalOf n → text′ ≡ text
         → ReadsInNumbers (readInBy (ofCode (w .code)) slc s w memory log (length text)) text r text′
-    unfolding readInBy
+    unfolding readInBy numbersOf
     read-unknown n i h m l =
         subst (λ (z : Known). ReadsInNumbers (readInBy z slc s w memory log (length text)) text r text′) (sym i ∙ e ∙ ap ofCode c)
         (record { answer = m ∙ ap refusalOf h; memory = l })
 
   module _ (w : SlcSetting) (c : code ≡ w .code) (memory log text memory′ : List ℕ) (r : ℕ) where
-    pub set-known : (t : FileType) (v : Value) (x : Stored) → k ≡ known.Is t → v ≡ valueOf t (w .value)
-        → Stores (setBy slc s (record { number = w .number; «file_type» = t; element = w .element; value = v }) memory log text) memory x memory′ → r ≡ storedNumber x
+    pub set-known : (t : FileType) (to : Setting) (x : Stored) → k ≡ known.Is t → to ≡ settingOf t w → Stores (setBy slc s to memory log text) memory x memory′ → r ≡ storedNumber x
         → StoresInNumbers (setInBy (ofCode (w .code)) slc s w memory log text) memory r memory′
     unfolding setInBy
-    set-known t v x i hv h n =
+    set-known t to x i a h n =
         subst (λ (z : Known). StoresInNumbers (setInBy z slc s w memory log text) memory r memory′) (sym i ∙ e ∙ ap ofCode c)
-        (in-a-number _ _ _ x r (subst (λ (y : Value). Stores (setBy slc s (record { number = w .number; «file_type» = t; element = w .element; value = y }) memory log text) memory x memory′) hv h) n)
+        (in-a-number _ _ _ x r (subst (λ (y : Setting). Stores (setBy slc s y memory log text) memory x memory′) a h) n)
 
     pub set-unknown : k ≡ known.Unknown → r ≡ noType (soundBy slc s (length memory) log) → memory′ ≡ memory
         → StoresInNumbers (setInBy (ofCode (w .code)) slc s w memory log text) memory r memory′

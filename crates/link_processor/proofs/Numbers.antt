@@ -1,6 +1,6 @@
 -- Values and elements in numbers.
 use Prim.Native.Nat.{ℕ, _-_, _%_, _≤_, _<_}
-use mathlib.Core.Path.{_≡_, refl, ap, sym, _∙_}
+use mathlib.Core.Path.{_≡_, refl, ap, ap₂, sym, _∙_}
 use mathlib.Core.Bool.{Bool, true, false, cond}
 use mathlib.Core.List.{List}
 use native.Mathlib.Omega.{arith}
@@ -76,24 +76,41 @@ module _ (t : FileType) (v : SlcValue) where
           unfolding valueOf
           value-other r h n4 = rw (ne-eqb (v .kind) 0 n0, ne-eqb (v .kind) 1 n1, ne-eqb (v .kind) 2 n2, ne-eqb (v .kind) 3 n3, ne-eqb (v .kind) 4 n4) h
 
--- ---- what is read
-module _ (e : Element) where
-  pub read-refused : (n : ℕ) (r : SlcElement) → r ≡ refusalOf n → e ≡ element.Refused n → r ≡ numbersOf e
-  read-refused n r i h = i ∙ sym (ap numbersOf h)
+-- ---- what is read: `r` begins as zeros
+module _ (r : SlcElement) (zeros : r ≡ refusalOf 0) where
+  pub told-whole : (z : ℤ) → SFits w32 z
+      → record { refused = r .refused; kind = r .kind; whole = toZ w32 (ofZ w32 z); bits = r .bits; length = r .length; word1 = r .word1; word2 = r .word2; status = r .status } ≡ numbersOf (element.Whole z)
+  unfolding numbersOf
+  told-whole z f = rw (zeros, toZ-ofZ w32 z f) refl
 
-  pub read-whole : (z : ℤ) → SFits w32 z → e ≡ element.Whole z
-      → record { refused = 0; kind = 0; whole = toZ w32 (ofZ w32 z); bits = 0; length = 0; word1 = pos 0; word2 = pos 0; status = 0 } ≡ numbersOf e
-  read-whole z f h = rw (toZ-ofZ w32 z f) (sym (ap numbersOf h))
+  pub told-float : (b : ℕ)
+      → record { refused = r .refused; kind = 1; whole = r .whole; bits = b; length = r .length; word1 = r .word1; word2 = r .word2; status = r .status } ≡ numbersOf (element.Float b)
+  unfolding numbersOf
+  told-float b = rw zeros refl
 
-  pub read-float : (b : ℕ) → e ≡ element.Float b → numbersOf (element.Float b) ≡ numbersOf e
-  read-float b h = sym (ap numbersOf h)
+  pub told-text : (k : ℕ)
+      → record { refused = r .refused; kind = 2; whole = r .whole; bits = r .bits; length = k; word1 = r .word1; word2 = r .word2; status = r .status } ≡ numbersOf (element.Text k)
+  unfolding numbersOf
+  told-text k = rw zeros refl
 
-  pub read-text : (k : ℕ) → e ≡ element.Text k → numbersOf (element.Text k) ≡ numbersOf e
-  read-text k h = sym (ap numbersOf h)
+  pub told-fields : (x y : ℤ) (b : ℕ) → SFits w16 x → SFits w16 y
+      → record { refused = r .refused; kind = 4; whole = r .whole; bits = r .bits; length = r .length; word1 = toZ w16 (ofZ w16 x); word2 = toZ w16 (ofZ w16 y); status = b } ≡ numbersOf (element.Fields x y b)
+  unfolding numbersOf
+  told-fields x y b f g = rw (zeros, toZ-ofZ w16 x f, toZ-ofZ w16 y g) refl
 
-  pub read-fields : (x y : ℤ) (b : ℕ) → SFits w16 x → SFits w16 y → e ≡ element.Fields x y b
-      → record { refused = 0; kind = 4; whole = pos 0; bits = 0; length = 0; word1 = toZ w16 (ofZ w16 x); word2 = toZ w16 (ofZ w16 y); status = b } ≡ numbersOf e
-  read-fields x y b f g h = rw (toZ-ofZ w16 x f, toZ-ofZ w16 y g) (sym (ap numbersOf h))
+module _ (e : Element) (r : SlcElement) where
+  pub read-refused : (n : ℕ) → r ≡ refusalOf n → e ≡ element.Refused n → r ≡ numbersOf e
+  unfolding numbersOf
+  read-refused n h i = h ∙ sym (ap numbersOf i)
+
+  pub read-plain : (x : Element) → r ≡ numbersOf x → e ≡ x → r ≡ numbersOf e
+  read-plain x h i = h ∙ sym (ap numbersOf i)
+
+  pub read-whole : (z : ℤ) → SFits w32 z → r ≡ numbersOf (element.Whole (toZ w32 (ofZ w32 z))) → e ≡ element.Whole z → r ≡ numbersOf e
+  read-whole z f h i = h ∙ ap (λ (x : ℤ). numbersOf (element.Whole x)) (toZ-ofZ w32 z f) ∙ sym (ap numbersOf i)
+
+  pub read-fields : (x y : ℤ) (b : ℕ) → SFits w16 x → SFits w16 y → r ≡ numbersOf (element.Fields (toZ w16 (ofZ w16 x)) (toZ w16 (ofZ w16 y)) b) → e ≡ element.Fields x y b → r ≡ numbersOf e
+  read-fields x y b f g h i = h ∙ ap₂ (λ (u v : ℤ). numbersOf (element.Fields u v b)) (toZ-ofZ w16 x f) (toZ-ofZ w16 y g) ∙ sym (ap numbersOf i)
 
 -- ---- "Another kind suits no type": 20, in its place
 module _ (t : FileType) (text bytes : List ℕ) where

@@ -62,7 +62,7 @@ abbrev pub refusalOf : ℕ → SlcElement
 refusalOf n = record { refused = n; kind = 0; whole = pos 0; bits = 0; length = 0; word1 = pos 0; word2 = pos 0; status = 0 }
 
 -- "WHOLE: whole. FLOAT: bits. TEXT: length. FIELD: words 1 and 2, and the named bits of word 0 in `status`." All else is 0
-abbrev pub numbersOf : Element → SlcElement
+unfoldable pub numbersOf : Element → SlcElement
 numbersOf (element.Refused n) = refusalOf n
 numbersOf (element.Whole z) = record { refused = 0; kind = 0; whole = z; bits = 0; length = 0; word1 = pos 0; word2 = pos 0; status = 0 }
 numbersOf (element.Float b) = record { refused = 0; kind = 1; whole = pos 0; bits = b; length = 0; word1 = pos 0; word2 = pos 0; status = 0 }

@@ -1,13 +1,12 @@
 // Elements: values and what is read as plain records.
 ghost use mathlib.Core.Path.{_≡_};
-ghost use mathlib.Core.Bool.{cond};
 ghost use lib.ListN.{length};
 ghost use Rattle.decode.specs.Decode.{decoded};
 ghost use Rattle.element.specs.Access.{soundBy};
 ghost use Rattle.encode.specs.Encode.{encoded};
 ghost use Rattle.file_type.specs.Table.{ofCode};
 ghost use Rattle.link_processor.specs.Elements.{lowHalf, misfitOf, valueOf, storedNumber, refusalOf, numbersOf, StoresInNumbers, ReadsInNumbers};
-ghost use Rattle.link_processor.specs.Access.{noType, readInBy, setInBy};
+ghost use Rattle.link_processor.specs.Access.{noType, spotOf, settingOf, readInBy, setInBy};
 use decode::Element;
 use element::Setting;
 use element::Spot;
@@ -144,51 +143,52 @@ pub fn refusal(n: u8) -> SlcElement
     }
 }
 
+fn whole_number(n: i32) -> SlcElement
+    ensures { λ r. ⌜ r ≡ numbersOf (Element.Whole n) ⌝ }
+{
+    let mut e = refusal(0);
+    e.whole = n;
+    e
+}
+
+fn float_bits(b: u32) -> SlcElement
+    ensures { λ r. ⌜ r ≡ numbersOf (Element.Float b) ⌝ }
+{
+    let mut e = refusal(0);
+    e.kind = FLOAT;
+    e.bits = b;
+    e
+}
+
+fn text_length(n: usize) -> SlcElement
+    ensures { λ r. ⌜ r ≡ numbersOf (Element.Text n) ⌝ }
+{
+    let mut e = refusal(0);
+    e.kind = TEXT;
+    e.length = n;
+    e
+}
+
+fn fields(first: i16, second: i16, bits: u16) -> SlcElement
+    ensures { λ r. ⌜ r ≡ numbersOf (Element.Fields first second bits) ⌝ }
+{
+    let mut e = refusal(0);
+    e.kind = FIELD;
+    e.word1 = first;
+    e.word2 = second;
+    e.status = bits;
+    e
+}
+
 pub fn numbers_of(e: Element) -> SlcElement
     ensures { λ r. ⌜ r ≡ numbersOf e ⌝ }
 {
     match e {
         Element::Refused(n) => refusal(n),
-        Element::Whole(n) => SlcElement {
-            refused: 0,
-            kind: WHOLE,
-            whole: n,
-            bits: 0,
-            length: 0,
-            word1: 0,
-            word2: 0,
-            status: 0,
-        },
-        Element::Float(b) => SlcElement {
-            refused: 0,
-            kind: FLOAT,
-            whole: 0,
-            bits: b,
-            length: 0,
-            word1: 0,
-            word2: 0,
-            status: 0,
-        },
-        Element::Text(n) => SlcElement {
-            refused: 0,
-            kind: TEXT,
-            whole: 0,
-            bits: 0,
-            length: n,
-            word1: 0,
-            word2: 0,
-            status: 0,
-        },
-        Element::Fields(first, second, bits) => SlcElement {
-            refused: 0,
-            kind: FIELD,
-            whole: 0,
-            bits: 0,
-            length: 0,
-            word1: first,
-            word2: second,
-            status: bits,
-        },
+        Element::Whole(n) => whole_number(n),
+        Element::Float(b) => float_bits(b),
+        Element::Text(n) => text_length(n),
+        Element::Fields(first, second, bits) => fields(first, second, bits),
     }
 }
 
@@ -216,6 +216,28 @@ fn no_type(slc: Slc, s: Seen, memory_length: usize, log: &[u8]) -> u8
     16
 }
 
+fn spot_of(t: FileType, w: SlcSpot) -> Spot
+    ensures { λ r. ⌜ r ≡ spotOf t w ⌝ }
+{
+    Spot {
+        number: w.number,
+        file_type: t,
+        element: w.element,
+    }
+}
+
+fn setting_of(t: FileType, w: SlcSetting) -> Setting
+    ensures { λ r. ⌜ r ≡ settingOf t w ⌝ }
+{
+    let v = w.value;
+    Setting {
+        number: w.number,
+        file_type: t,
+        element: w.element,
+        value: value_of(t, v),
+    }
+}
+
 // Reads an element, by what the survey of the file table tells.
 pub fn read_element(
     slc: Slc,
@@ -229,18 +251,10 @@ pub fn read_element(
 {
     let k = FileType::from_code(w.code);
     match k {
-        Known::Is(t) => numbers_of(element::read_element(
-            slc,
-            s,
-            Spot {
-                number: w.number,
-                file_type: t,
-                element: w.element,
-            },
-            text,
-            log,
-            memory,
-        )),
+        Known::Is(t) => {
+            let at = spot_of(t, w);
+            numbers_of(element::read_element(slc, s, at, text, log, memory))
+        }
         Known::Unknown => refusal(no_type(slc, s, memory.len(), log)),
     }
 }
@@ -259,20 +273,8 @@ pub fn set_element(
     let k = FileType::from_code(w.code);
     match k {
         Known::Is(t) => {
-            let v = w.value;
-            stored_number(element::set_element(
-                slc,
-                s,
-                Setting {
-                    number: w.number,
-                    file_type: t,
-                    element: w.element,
-                    value: value_of(t, v),
-                },
-                memory,
-                log,
-                text,
-            ))
+            let to = setting_of(t, w);
+            stored_number(element::set_element(slc, s, to, memory, log, text))
         }
         Known::Unknown => no_type(slc, s, memory.len(), log),
     }

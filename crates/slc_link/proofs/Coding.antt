@@ -11,7 +11,7 @@ use Rattle.file_type.specs.declared.Known.the-variants as known
 use Rattle.file_type.specs.Table.{ofCode}
 use Rattle.link_processor.specs.declared.elements.SlcElement.{SlcElement}
 use Rattle.link_processor.specs.declared.elements.SlcValue.{SlcValue}
-use Rattle.link_processor.specs.Elements.{valueOf, refusalOf, StoresInNumbers, ReadsInNumbers, encodedIn, decodedIn}
+use Rattle.link_processor.specs.Elements.{valueOf, refusalOf, numbersOf, StoresInNumbers, ReadsInNumbers, encodedIn, decodedIn}
 
 module _ (code : ℕ) (k : Known) (e : k ≡ ofCode code) where
   module _ (v : SlcValue) (text l l′ : List ℕ) (r : ℕ) where
@@ -29,5 +29,5 @@ module _ (code : ℕ) (k : Known) (e : k ≡ ofCode code) where
     decode-known t i h = subst (λ (z : Known). ReadsInNumbers (decodedIn z bytes (length l)) l r l′) (sym i ∙ e) h
 
     pub decode-unknown : k ≡ known.Unknown → r ≡ refusalOf 19 → l′ ≡ l → ReadsInNumbers (decodedIn (ofCode code) bytes (length l)) l r l′
-    unfolding decodedIn
+    unfolding decodedIn numbersOf
     decode-unknown i h m = subst (λ (z : Known). ReadsInNumbers (decodedIn z bytes (length l)) l r l′) (sym i ∙ e) (record { answer = h; memory = m })

@@ -1,4 +1,4 @@
-use Rattle.link_processor.proofs.Numbers.{read-refused, read-whole, read-float, read-text, read-fields}
+use Rattle.link_processor.proofs.Numbers.{read-refused, read-whole, read-plain, read-fields}
 use borrow.Author.Needs.{needs}
 use Rattle.link_processor.proofs.elements.numbers_of.Statement.{statement}
 use Rattle.link_processor.proofs.elements.numbers_of.Tie as tie
@@ -10,11 +10,15 @@ numbers-of-spec =
     (λ c. search needs)
     (λ c κs. search needs)
     (λ c. search needs)
+    (λ c κs. search needs)
     (λ c. search needs)
+    (λ c κs. search needs)
     (λ c. search needs)
+    (λ c κs. search needs)
     (λ c. search needs)
+    (λ c κs. search needs)
     (λ c. search (read-refused, needs))
     (λ c. search (read-whole, needs))
-    (λ c. search (read-float, needs))
-    (λ c. search (read-text, needs))
+    (λ c. search (read-plain, needs))
+    (λ c. search (read-plain, needs))
     (λ c. search (read-fields, needs)))
