@@ -17,7 +17,8 @@ use Rattle.model.specs.Plain.{entryRoom, entries, holds}
 use Rattle.model.specs.State.{every, goodLog}
 use Rattle.model.specs.Step.{Step, replied, takes, popped}
 use Rattle.model.proofs.Tests.{and-l, and-r}
-use Rattle.core.specs.Steps.{goodLogBy, Answers, tells, popStep}
+use Rattle.soundness.specs.Sound.{goodLogBy}
+use Rattle.core.specs.Steps.{Answers, tells, popStep}
 
 -- the first of some entries
 first-fits : (k : ℕ) (log : List ℕ) → (holds (suc k) log && goodLog (entries (suc k) log)) ≡ true → (entryRoom log ≤ length log) × (entryRoom log ≤ 257)

@@ -21,7 +21,7 @@ use Rattle.query.specs.declared.Wants.{Wants}
 use Rattle.query.specs.declared.Wants.the-variants as wants
 use Rattle.table.specs.declared.Seen.{Seen}
 use Rattle.core.specs.Calls.{respondOf}
-use Rattle.core.specs.Steps.{goodLogBy, soundBy, Answers, tells, tellsBad, statusStep, popStep, readAt, readStep, writeAt, writeStep, valuesOf, obeyStep}
+use Rattle.core.specs.Steps.{Answers, tells, tellsBad, statusStep, popStep, readAt, readStep, writeAt, writeStep, valuesOf, obeyStep}
 use Rattle.located.specs.Locate.{locateBy}
 use Rattle.core.proofs.Replying.{answers-left, kept}
 

@@ -20,21 +20,23 @@ use Rattle.model.specs.Files.{find, placeIn, locate}
 use Rattle.model.specs.Frame.{wellFormed, cmd, function}
 use Rattle.model.specs.Params.{several, Header, header, knownFunction, writes, asksDirectory, asksDatalog, lastAddress, maskWord, valueBytes}
 use Rattle.model.specs.Pccc.{Left, leftBy, pcccOf}
-use Rattle.model.specs.Plain.{entries, holds, within, heldState, stateOf}
-use Rattle.model.specs.State.{State, total, goodText, goodLog, goodTable, sound}
+use Rattle.model.specs.Plain.{entries, within, heldState, stateOf}
+use Rattle.model.specs.State.{State, goodTable, sound}
 use Rattle.model.specs.Step.{Step, perform, obey, refuse, step}
 use Rattle.model.proofs.Directory.{directory-length}
-use Rattle.model.proofs.Plain.{sound-plain, sound-within, held-is}
+use Rattle.model.proofs.Plain.{sound-within, held-is}
 use Rattle.model.proofs.Tests.{and-l, and-r}
 use Rattle.params.specs.Take.{placeOf as restPlace}
 use Rattle.query.specs.declared.Query.{Query}
 use Rattle.query.specs.declared.Wants.the-variants as wants
 use Rattle.query.specs.Query.{layoutOf, plainly, directoryQuery, accessQuery, fileQuery, orBad, functionQuery, bodyQuery, queryOf}
 use Rattle.query.proofs.Behind.{Behind, behind-trans, Leaves, last-leaves, mask-leaves, header-leaves}
+use Rattle.soundness.specs.Sound.{soundBy}
+use Rattle.soundness.proofs.Surveyed.{sound-is}
 use Rattle.table.specs.declared.Seen.{Seen}
 use Rattle.table.specs.Survey.{there, orNone, toldOf, lostOf, surveyOf}
-use Rattle.core.specs.Calls.{questioned, respondOf, showOf}
-use Rattle.core.specs.Steps.{goodLogBy, soundBy, tells, tellsBad, statusStep, popStep, readAt, readStep, valuesOf, writeAt, writeStep, obeyStep, sizeAsked, directoryLength, sizeBytes, directoryStep}
+use Rattle.core.specs.Calls.{questionOf, questioned, respondOf, showOf}
+use Rattle.core.specs.Steps.{tells, tellsBad, statusStep, popStep, readAt, readStep, valuesOf, writeAt, writeStep, obeyStep, sizeAsked, directoryLength, sizeBytes, directoryStep}
 use Rattle.located.specs.Locate.{locateBy}
 
 found-is : (o : Option FileRecord) → cond (there o) (some (orNone o)) none ≡ o
@@ -195,50 +197,27 @@ module _ (slc : Slc) (t : List FileRecord) (m log c : List ℕ) (fill : Query �
         by-cmd true = function-same fn p ef (header p) (header-leaves p)
         by-cmd false = diagnosed (eqb (cmd c) 0x06 && eqb fn 0x03)
 
--- ---- 16
-shuffle : (T L X H G : Bool) → ((T && (L && X)) && (H && G)) ≡ ((L && H) && ((T && X) && G))
-shuffle true true X true G = refl
-shuffle true true true false G = refl
-shuffle true true false false G = refl
-shuffle true false X H G = refl
-shuffle false true X true G = refl
-shuffle false true X false G = refl
-shuffle false false X H G = refl
-
-never : (k : Bool) → (k && false) ≡ false
-never true = refl
-never false = refl
-
-module _ (slc : Slc) (t : List FileRecord) (m log : List ℕ) (number : ℕ) where
-  sound-same : soundBy slc (surveyOf t (slc .files) number) m log ≡ sound (stateOf slc t m log)
-  unfolding soundBy goodLogBy surveyOf within sound heldState
-  sound-same = go (leb (slc .files) (length t)) (goodTable (take (slc .files) t)) ∙ sym (sound-plain slc t m log)
-    where
-      L : Bool
-      L = leb (slc .«type_len») 11
-
-      X : Bool
-      X = goodText (take (slc .«type_len») (slc .«type_text»))
-
-      H : Bool
-      H = holds (slc .«log_left») (drop (slc .«log_at») log)
-
-      G : Bool
-      G = goodLog (entries (slc .«log_left») (drop (slc .«log_at») log))
-
-      go : (a g : Bool)
-          → ((cond (a && g) (toldOf number (take (slc .files) t)) (lostOf number)) .sound && leb ((cond (a && g) (toldOf number (take (slc .files) t)) (lostOf number)) .total) (length m) && (L && X) && (H && G))
-          ≡ ((a && L && H) && (g && leb (total (take (slc .files) t)) (length m) && X && G))
-      go true true = unfold toldOf in shuffle (leb (total (take (slc .files) t)) (length m)) L X H G
-      go true false = unfold lostOf in sym (never (L && H))
-      go false g = unfold lostOf in refl
-
 -- ---- the call
-questioned-same : (b k : Bool) (room : ℕ) (c : List ℕ) (x y : Step) → b ≡ k → (k ≡ true → x ≡ y) → questioned b room c x ≡ questioned k room c y
-questioned-same b k room c x y e f = ap (λ (z : Bool). questioned z room c x) e ∙ go k f
+questioned-is : (b : Bool) (room : ℕ) (c : List ℕ) (x : Step) → questioned (questionOf b room c) x ≡ cond b (cond (leb 514 room) (cond (wellFormed c) x (refuse 18)) (refuse 17)) (refuse 16)
+unfolding questionOf
+questioned-is b room c x = go b (leb 514 room) (wellFormed c)
   where
-    go : (k : Bool) → (k ≡ true → x ≡ y) → questioned k room c x ≡ questioned k room c y
-    go true f = ap (questioned true room c) (f refl)
+    first-no : Bool → Bool → Bool → ℕ
+    first-no b r w = cond b (cond r (cond w 0 18) 17) 16
+
+    go : (b r w : Bool) → questioned (first-no b r w) x ≡ cond b (cond r (cond w x (refuse 18)) (refuse 17)) (refuse 16)
+    go true true true = refl
+    go true true false = refl
+    go true false w = refl
+    go false r w = refl
+
+questioned-same : (b k : Bool) (room : ℕ) (c : List ℕ) (x y : Step) → b ≡ k → (k ≡ true → x ≡ y)
+    → questioned (questionOf b room c) x ≡ cond k (cond (leb 514 room) (cond (wellFormed c) y (refuse 18)) (refuse 17)) (refuse 16)
+questioned-same b k room c x y e f = ap (λ (z : Bool). questioned (questionOf z room c) x) e ∙ questioned-is k room c x ∙ go k f
+  where
+    go : (k : Bool) → (k ≡ true → x ≡ y)
+        → cond k (cond (leb 514 room) (cond (wellFormed c) x (refuse 18)) (refuse 17)) (refuse 16) ≡ cond k (cond (leb 514 room) (cond (wellFormed c) y (refuse 18)) (refuse 17)) (refuse 16)
+    go true f = ap (λ (z : Step). cond (leb 514 room) (cond (wellFormed c) z (refuse 18)) (refuse 17)) (f refl)
     go false f = refl
 
 -- what fills the array: where the first n records are sound, it begins with the directory
@@ -295,10 +274,10 @@ module _ (fill : FillDef) (fills : Fills fill) (slc : Slc) (t : List FileRecord)
   right reply =
       go (asks .directory)
       ∙ ap (λ (x : Step). leftBy x slc m log reply)
-      (questioned-same (soundBy slc seen m log) (sound (stateOf slc t m log)) (length reply) c (stepped seen) (obey (stateOf slc t m log) c) (sound-same slc t m log (asks .number)) step-same)
+      (questioned-same (soundBy slc seen (length m) log) (sound (stateOf slc t m log)) (length reply) c (stepped seen) (obey (stateOf slc t m log) c) (sound-is slc t m log (asks .number)) step-same)
     where
       ahead : Step → Step
-      ahead x = questioned (soundBy slc seen m log) (length reply) c x
+      ahead x = questioned (questionOf (soundBy slc seen (length m) log) (length reply) c) x
 
       go : (b : Bool)
           → cond b (leftBy (ahead (directoryStep seen asks (filling asks) c)) slc m log reply) (leftBy (ahead (obeyStep (asks .wants) slc seen asks m log c)) slc m log reply)

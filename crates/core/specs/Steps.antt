@@ -14,8 +14,7 @@ use Rattle.model.specs.Ask.{diagnostic}
 use Rattle.model.specs.Frame.{function, framed}
 use Rattle.model.specs.Masked.{maskedAt}
 use Rattle.model.specs.Pccc.{answeredOf, replyLeft, slcLeft}
-use Rattle.model.specs.Plain.{entries, holds}
-use Rattle.model.specs.State.{goodText, goodLog}
+use Rattle.model.specs.Plain.{entries}
 use Rattle.model.specs.Step.{Step, replied, keeps, lays, popped}
 use Rattle.query.specs.declared.Layout.{Layout}
 use Rattle.query.specs.declared.Query.{Query}
@@ -23,17 +22,6 @@ use Rattle.query.specs.declared.Wants.{Wants}
 use Rattle.query.specs.declared.Wants.the-variants as wants
 use Rattle.located.specs.Locate.{locateBy}
 use Rattle.table.specs.declared.Seen.{Seen}
-
--- 15, of the entries that are left in the datalog's memory
-unfoldable pub goodLogBy : Slc → List ℕ → Bool
-goodLogBy slc log = holds (slc .«log_left») (drop (slc .«log_at») log) && goodLog (entries (slc .«log_left») (drop (slc .«log_at») log))
-
--- 16: "A state is sound when": the table as the survey found it, "and fit; and 13 to 15 hold"
-unfoldable pub soundBy : Slc → Seen → List ℕ → List ℕ → Bool
-soundBy slc s memory log =
-    s .sound && leb (s .total) (length memory)
-    && (leb (slc .«type_len») 11 && goodText (take (slc .«type_len») (slc .«type_text»)))
-    && goodLogBy slc log
 
 -- a reply that changes nothing
 abbrev pub tells : List ℕ → ℕ → List ℕ → Step

@@ -15,8 +15,9 @@ ghost use Prim.Native.Nat.{_≤_};
 ghost use lib.ListN.{length, take, drop};
 ghost use Rattle.model.specs.Frame.{wellFormed};
 ghost use Rattle.model.specs.Pccc.{left, leftBy};
-ghost use Rattle.core.specs.Steps.{goodLogBy, soundBy, Answers, tells, tellsBad, statusStep, popStep, readStep, writeStep, obeyStep, sizeAsked, directoryLength, sizeBytes, directoryStep};
-ghost use Rattle.core.specs.Calls.{respondOf, showOf};
+ghost use Rattle.soundness.specs.Sound.{goodLogBy, soundBy};
+ghost use Rattle.core.specs.Steps.{Answers, tells, tellsBad, statusStep, popStep, readStep, writeStep, obeyStep, sizeAsked, directoryLength, sizeBytes, directoryStep};
+ghost use Rattle.core.specs.Calls.{questionOf, respondOf, showOf};
 
 // What the reply memory must hold.
 const ROOM: usize = 514;
@@ -145,21 +146,20 @@ fn obey(
     }
 }
 
-// Question 16, with what the survey found.
-fn sound(slc: Slc, s: Seen, memory: &[u8], log: &[u8]) -> bool
-    ensures { λ r. ⌜ r ≡ soundBy slc s (now (memory .entry)) (now (log .entry)) ⌝ }
+// The number of the first question that is answered with no, 0 where none is.
+fn question(slc: Slc, s: Seen, memory: usize, log: &[u8], room: usize, command: &[u8]) -> u8
+    ensures { λ r. ⌜ r ≡ questionOf (soundBy slc s memory (now (log .entry))) room (now (command .entry)) ⌝ }
 {
-    if !s.sound {
-        return false;
+    if !soundness::sound(slc, s, memory, log) {
+        return 16;
     }
-    if memory.len() < (s.total as usize) {
-        return false;
+    if room < ROOM {
+        return 17;
     }
-    let text = slc.type_text;
-    if !soundness::good_text(text, slc.type_len) {
-        return false;
+    if !framed::well_formed(command) {
+        return 18;
     }
-    soundness::good_log(log, slc.log_at, slc.log_left)
+    0
 }
 
 // The call, where the directory isn't asked for.
@@ -174,22 +174,11 @@ pub fn respond(
 ) -> Done
     ensures { λ r. ⌜ left r (now (memory .exit)) (now (reply .exit)) ≡ respondOf slc s q (now (memory .entry)) (now (log .entry)) (now (command .entry)) (now (reply .entry)) ⌝ }
 {
-    if !sound(slc, s, memory, log) {
+    let refusal = question(slc, s, memory.len(), log, reply.len(), command);
+    if refusal != 0 {
         return Done {
             slc,
-            answered: Answered::Refused(16),
-        };
-    }
-    if reply.len() < ROOM {
-        return Done {
-            slc,
-            answered: Answered::Refused(17),
-        };
-    }
-    if !framed::well_formed(command) {
-        return Done {
-            slc,
-            answered: Answered::Refused(18),
+            answered: Answered::Refused(refusal),
         };
     }
     obey(slc, s, q, memory, log, command, reply)
@@ -267,22 +256,11 @@ pub fn show(
 ) -> Done
     ensures { λ r. ⌜ left r (now (memory .exit)) (now (reply .exit)) ≡ showOf slc s q d (now (memory .entry)) (now (log .entry)) (now (command .entry)) (now (reply .entry)) ⌝ }
 {
-    if !sound(slc, s, memory, log) {
+    let refusal = question(slc, s, memory.len(), log, reply.len(), command);
+    if refusal != 0 {
         return Done {
             slc,
-            answered: Answered::Refused(16),
-        };
-    }
-    if reply.len() < ROOM {
-        return Done {
-            slc,
-            answered: Answered::Refused(17),
-        };
-    }
-    if !framed::well_formed(command) {
-        return Done {
-            slc,
-            answered: Answered::Refused(18),
+            answered: Answered::Refused(refusal),
         };
     }
     list(slc, s, q, &d, command, reply)

@@ -24,12 +24,13 @@ use Rattle.file_type.specs.Table.{row}
 use Rattle.model.specs.declared.Slc.{Slc}
 use Rattle.model.specs.Elements.{behind, setAt, readAt}
 use Rattle.table.specs.declared.Seen.{Seen}
+use Rattle.soundness.specs.Sound.{soundBy}
 use Rattle.element.specs.declared.Place.{Place}
 use Rattle.element.specs.declared.Place.the-variants as place
 use Rattle.element.specs.declared.Setting.{Setting}
 use Rattle.element.specs.declared.Spot.{Spot}
 use Rattle.element.proofs.Places.{size-positive}
-use Rattle.element.specs.Access.{soundBy, placeOf, elementBy, readBy, setHere, setBy}
+use Rattle.element.specs.Access.{placeOf, elementBy, readBy, setHere, setBy}
 
 -- ---- reading
 module _ (slc : Slc) (s : Seen) (w : Spot) (memory log text : List ℕ) (y : Bool) (ey : y ≡ soundBy slc s (length memory) log) where

@@ -1,4 +1,3 @@
-pub mod Tested
 pub mod Places
 pub mod Accesses
 pub mod Right

@@ -89,21 +89,3 @@ module _ (t : FileType) (size l element : ℕ) (es : size ≡ row t .size) (smal
 
   pub place-fits : (start : ℕ) → start ≤ 65535 → start + element * size < 2 ^ 64
   place-fits start k = omega (arith, held)
-
--- ---- a part of a memory
-module _ (s : List ℕ) (at n : ℕ) where
-  pub part-none : length s ≤ at → [] ≡ take n (drop at s)
-  part-none h = sym (ap (take n) (drop-of-length-le s h) ∙ take-nil n)
-
-  pub part-is : (k : ℕ) → k ≡ min n (length s - at) → take (at + k - at) (drop at s) ≡ take n (drop at s)
-  part-is k e = go (leb n (length s - at)) refl
-    where
-      z : at + k - at ≡ k
-      z = omega arith
-
-      go : (b : Bool) → leb n (length s - at) ≡ b → take (at + k - at) (drop at s) ≡ take n (drop at s)
-      go true t = let q : k ≡ n = omega (arith, e, leb-true n (length s - at) t) in rw (z, q)
-      go false t =
-          let q : length (drop at s) ≤ k = omega (arith, e, leb-false n (length s - at) t, length-drop at s) in
-          let w : length (drop at s) ≤ n = omega (arith, e, leb-false n (length s - at) t, length-drop at s) in
-          rw z (take-all k (drop at s) q ∙ sym (take-all n (drop at s) w))

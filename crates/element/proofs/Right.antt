@@ -23,11 +23,13 @@ use Rattle.model.specs.State.{State, every, simulatedSize, elementSize, knownCo
 use Rattle.model.proofs.Files.{sound-table}
 use Rattle.model.proofs.Plain.{sound-plain, sound-within, held-is}
 use Rattle.model.proofs.Tests.{and-l, and-r}
+use Rattle.soundness.specs.Sound.{soundBy}
+use Rattle.soundness.proofs.Surveyed.{sound-is}
 use Rattle.table.specs.declared.Seen.{Seen}
 use Rattle.table.specs.Survey.{there, orNone, toldOf, lostOf, surveyOf}
 use Rattle.element.specs.declared.Setting.{Setting}
 use Rattle.element.specs.declared.Spot.{Spot}
-use Rattle.element.specs.Access.{soundBy, elementBy, readBy, setBy}
+use Rattle.element.specs.Access.{elementBy, readBy, setBy}
 
 -- ---- 16
 module _ (slc : Slc) (table : List FileRecord) (memory log : List ℕ) (number : ℕ) where
@@ -36,54 +38,6 @@ module _ (slc : Slc) (table : List FileRecord) (memory log : List ℕ) (number :
 
   abbrev records : List FileRecord
   records = take (slc .files) table
-
-  -- the tests in either order
-  tests : (a g f l x h y : Bool) → ((a && g) && f && (l && x) && (h && y)) ≡ (((a && l) && h) && (((g && f) && x) && y))
-  tests false g f l x h y = refl
-  tests true false f l x h y = sym (none (l && h))
-    where
-      none : (b : Bool) → (b && false) ≡ false
-      none true = refl
-      none false = refl
-  tests true true false l x h y = sym (none (l && h))
-    where
-      none : (b : Bool) → (b && false) ≡ false
-      none true = refl
-      none false = refl
-  tests true true true false x h y = refl
-  tests true true true true x false y = none x
-    where
-      none : (b : Bool) → (b && false) ≡ false
-      none true = refl
-      none false = refl
-  tests true true true true x true y = refl
-
-  -- what a survey tells of the records
-  surveyed : seen .sound ≡ (leb (slc .files) (length table) && goodTable records)
-  unfolding surveyOf toldOf lostOf
-  surveyed = go (leb (slc .files) (length table) && goodTable records)
-    where
-      go : (b : Bool) → cond b (toldOf number records) (lostOf number) .sound ≡ b
-      go true = refl
-      go false = refl
-
-  pub sound-is : soundBy slc seen (length memory) log ≡ sound (stateOf slc table memory log)
-  unfolding soundBy sound within heldState surveyOf toldOf lostOf
-  sound-is =
-      go (leb (slc .files) (length table) && goodTable records) refl
-      ∙ tests (leb (slc .files) (length table)) (goodTable records) (leb (total records) (length memory)) (leb (slc .«type_len») 11) (goodText (take (slc .«type_len») (slc .«type_text»)))
-      (holds (slc .«log_left») (drop (slc .«log_at») log)) (goodLog (entries (slc .«log_left») (drop (slc .«log_at») log)))
-      ∙ sym (sound-plain slc table memory log)
-    where
-      rest : Bool → ℕ → Bool
-      rest b n =
-          b && leb n (length memory) && (leb (slc .«type_len») 11 && goodText (take (slc .«type_len») (slc .«type_text»)))
-          && (holds (slc .«log_left») (drop (slc .«log_at») log) && goodLog (entries (slc .«log_left») (drop (slc .«log_at») log)))
-
-      go : (b : Bool) → (leb (slc .files) (length table) && goodTable records) ≡ b
-          → rest (cond b (toldOf number records) (lostOf number) .sound) (cond b (toldOf number records) (lostOf number) .total) ≡ rest (leb (slc .files) (length table) && goodTable records) (total records)
-      go true e = rw e
-      go false e = rw e
 
   -- a sound state is that of the records as they were surveyed
   module _ (h : sound (stateOf slc table memory log) ≡ true) where

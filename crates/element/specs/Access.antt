@@ -4,7 +4,7 @@ use mathlib.Core.Bool.{Bool, _&&_, cond}
 use mathlib.Core.List.{List}
 use mathlib.Core.Option.{Option, none, some}
 use lib.Dec.{leb, eqb}
-use lib.ListN.{length, take, drop}
+use lib.ListN.{length}
 use Rattle.base.specs.Outcome.{Outcome, refused}
 use Rattle.decode.specs.Decode.{Says, refuses}
 use Rattle.encode.specs.declared.Value.{Value}
@@ -12,20 +12,12 @@ use Rattle.file_type.specs.declared.FileType.{FileType}
 use Rattle.file_type.specs.Table.{row}
 use Rattle.model.specs.declared.Slc.{Slc}
 use Rattle.model.specs.Elements.{setAt, readAt}
-use Rattle.model.specs.Plain.{entries, holds}
-use Rattle.model.specs.State.{goodText, goodLog}
+use Rattle.soundness.specs.Sound.{soundBy}
 use Rattle.table.specs.declared.Seen.{Seen}
 use Rattle.element.specs.declared.Place.{Place}
 use Rattle.element.specs.declared.Place.the-variants as place
 use Rattle.element.specs.declared.Setting.{Setting}
 use Rattle.element.specs.declared.Spot.{Spot}
-
--- 16: "A state is sound when": the table as the survey found it, "and fit; and 13 to 15 hold"
-unfoldable pub soundBy : Slc → Seen → ℕ → List ℕ → Bool
-soundBy slc s memoryLength log =
-    s .sound && leb (s .total) memoryLength
-    && (leb (slc .«type_len») 11 && goodText (take (slc .«type_len») (slc .«type_text»)))
-    && (holds (slc .«log_left») (drop (slc .«log_at») log) && goodLog (entries (slc .«log_left») (drop (slc .«log_at») log)))
 
 abbrev pub placeOf : Place → Option ℕ
 placeOf place.No = none

@@ -1,10 +1,10 @@
 // Element access: reading and setting one element, by what the survey of the file table tells.
 ghost use mathlib.Core.Path.{_≡_};
 ghost use Prim.Native.Nat.{_≤_};
-ghost use lib.ListN.{length, take, drop};
+ghost use lib.ListN.{length};
 ghost use Rattle.decode.specs.Decode.{Reads};
 ghost use Rattle.encode.specs.Encode.{Stores};
-ghost use Rattle.element.specs.Access.{soundBy, placeOf, elementBy, readBy, setHere, setBy};
+ghost use Rattle.element.specs.Access.{placeOf, elementBy, readBy, setHere, setBy};
 use decode::Element;
 use encode::Stored;
 use encode::Value;
@@ -39,23 +39,6 @@ fn wide(x: u16) -> usize
     x as usize
 }
 
-// 16: the table as it was surveyed, its files in the data memory, the type text, and the datalog.
-pub fn sound(slc: Slc, s: Seen, memory_length: usize, log: &[u8]) -> bool
-    ensures { λ r. ⌜ r ≡ soundBy slc s «memory_length» (now (log .entry)) ⌝ }
-{
-    if !s.sound {
-        return false;
-    }
-    if memory_length < wide(s.total) {
-        return false;
-    }
-    let text = slc.type_text;
-    if !soundness::good_text(text, slc.type_len) {
-        return false;
-    }
-    soundness::good_log(log, slc.log_at, slc.log_left)
-}
-
 // 19: the file that was found, of the given type, and as many elements as its length holds.
 fn locate(s: Seen, t: FileType, element: usize) -> Place
     ensures { λ r. ⌜ placeOf r ≡ elementBy s t element ⌝ }
@@ -74,17 +57,6 @@ fn locate(s: Seen, t: FileType, element: usize) -> Place
     Place::At(wide(r.start) + element * size)
 }
 
-// So many bytes from a place on, or those that are there.
-fn part(s: &[u8], at: usize, n: usize) -> &[u8]
-    ensures { λ r. ⌜ now r ≡ take n (drop at (now (s .entry))) ⌝ }
-{
-    if s.len() <= at {
-        return &s[..0];
-    }
-    let e = at + base::least(n, s.len() - at);
-    &s[at..e]
-}
-
 // Reads an element; text is written to the lent memory, which needs 82 bytes for it. A refusal changes nothing.
 pub fn read_element(
     slc: Slc,
@@ -96,14 +68,14 @@ pub fn read_element(
 ) -> Element
     ensures { λ r. ⌜ Reads (readBy slc s w (now (memory .entry)) (now (log .entry)) (length (now (text .entry)))) (now (text .entry)) r (now (text .exit)) ⌝ }
 {
-    if !sound(slc, s, memory.len(), log) {
+    if !soundness::sound(slc, s, memory.len(), log) {
         return Element::Refused(16);
     }
     let t = w.file_type;
     let Place::At(at) = locate(s, t, w.element) else {
         return Element::Refused(19);
     };
-    decode::decode_element(t, part(memory, at, t.element_size()), text)
+    decode::decode_element(t, located::part(memory, at, t.element_size()), text)
 }
 
 // Sets an element; `text` is the text of A and ST, or the name of the field. A refusal changes nothing.
@@ -117,7 +89,7 @@ pub fn set_element(
 ) -> Stored
     ensures { λ r. ⌜ Stores (setBy slc s w (now (memory .entry)) (now (log .entry)) (now (text .entry))) (now (memory .entry)) r (now (memory .exit)) ⌝ }
 {
-    if !sound(slc, s, memory.len(), log) {
+    if !soundness::sound(slc, s, memory.len(), log) {
         return Stored::Refused(16);
     }
     let t = w.file_type;

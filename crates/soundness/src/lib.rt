@@ -1,4 +1,6 @@
-// What question 16 asks beside the file table: the type text (13) and the datalog (15).
+// Question 16: the file table as it was surveyed, the type text (13) and the datalog (15).
+use model::Slc;
+use table::Seen;
 ghost use mathlib.Core.Path.{_≡_};
 ghost use mathlib.Core.Bool.{_&&_};
 ghost use Prim.Native.Nat.{max};
@@ -6,6 +8,7 @@ ghost use lib.Dec.{leb};
 ghost use lib.ListN.{take, drop};
 ghost use Rattle.model.specs.State.{goodText, goodLog};
 ghost use Rattle.model.specs.Plain.{entries, holds};
+ghost use Rattle.soundness.specs.Sound.{soundBy};
 ghost use Rattle.soundness.specs.Tests.{largest as Tests·largest, small, goodRoom};
 
 fn larger(a: u8, b: u8) -> u8
@@ -92,4 +95,21 @@ pub fn good_log(log: &[u8], at: usize, left: usize) -> bool
         k -= 1;
     }
     true
+}
+
+// 16: the table as it was surveyed, its files in a data memory of this length, the type text, and the datalog.
+pub fn sound(slc: Slc, s: Seen, memory: usize, log: &[u8]) -> bool
+    ensures { λ r. ⌜ r ≡ soundBy slc s memory (now (log .entry)) ⌝ }
+{
+    if !s.sound {
+        return false;
+    }
+    if memory < (s.total as usize) {
+        return false;
+    }
+    let text = slc.type_text;
+    if !good_text(text, slc.type_len) {
+        return false;
+    }
+    good_log(log, slc.log_at, slc.log_left)
 }

@@ -1,4 +1,4 @@
-use Rattle.core.proofs.Questions.{refused-16, refused-17, refused-18, responded, log-good, well-there}
+use Rattle.core.proofs.Questions.{refused-by, responded, log-good, room-there, well-there}
 use borrow.Author.Needs.{needs}
 use Rattle.core.proofs.respond.Statement.{statement}
 use Rattle.core.proofs.respond.Tie as tie
@@ -8,14 +8,8 @@ respond-spec =
     tie.close
     (tie.spec
     (λ c κs. search needs)
-    (λ c. search needs)
-    (λ c. search (refused-16, needs))
-    (λ c. search needs)
-    (λ c. search (refused-17, needs))
-    (λ c κs. search needs)
-    (λ c. search needs)
-    (λ c. search (refused-18, needs))
-    (λ c κs. (search (well-there, needs), (search (log-good, needs), search needs)))
+    (λ c. search (refused-by, needs))
+    (λ c κs. (search (well-there, needs), (search (log-good, needs), search (room-there, needs))))
     (λ c. search needs)
     (λ c. search needs)
     (λ c. search (responded, needs)))
