@@ -9,8 +9,10 @@ use Rattle.decode.specs.declared.Element.{Element}
 use Rattle.decode.specs.Decode.{Says, refuses, Reads}
 use Rattle.element.specs.declared.Setting.{Setting}
 use Rattle.element.specs.declared.Spot.{Spot}
-use Rattle.element.specs.Access.{soundBy, readBy, setBy}
-use Rattle.element.proofs.Right.{sound-is, read-is, set-is}
+use Rattle.element.specs.Access.{readBy, setBy}
+use Rattle.element.proofs.Right.{read-is, set-is}
+use Rattle.soundness.specs.Sound.{soundBy}
+use Rattle.soundness.proofs.Surveyed.{sound-is}
 use Rattle.encode.specs.declared.Stored.{Stored}
 use Rattle.encode.specs.declared.Value.{Value}
 use Rattle.encode.specs.Encode.{encoded, Stores}

@@ -7,7 +7,8 @@ use Rattle.base.specs.Outcome.{Outcome, refused}
 use Rattle.decode.specs.Decode.{Says, refuses}
 use Rattle.element.specs.declared.Setting.{Setting}
 use Rattle.element.specs.declared.Spot.{Spot}
-use Rattle.element.specs.Access.{soundBy, readBy, setBy}
+use Rattle.element.specs.Access.{readBy, setBy}
+use Rattle.soundness.specs.Sound.{soundBy}
 use Rattle.file_type.specs.declared.FileType.{FileType}
 use Rattle.file_type.specs.declared.Known.{Known}
 use Rattle.file_type.specs.declared.Known.the-variants as known

@@ -2,7 +2,7 @@
 ghost use mathlib.Core.Path.{_≡_};
 ghost use lib.ListN.{length};
 ghost use Rattle.decode.specs.Decode.{decoded};
-ghost use Rattle.element.specs.Access.{soundBy};
+ghost use Rattle.soundness.specs.Sound.{soundBy};
 ghost use Rattle.encode.specs.Encode.{encoded};
 ghost use Rattle.file_type.specs.Table.{ofCode};
 ghost use Rattle.link_processor.specs.Elements.{lowHalf, misfitOf, valueOf, storedNumber, refusalOf, numbersOf, StoresInNumbers, ReadsInNumbers};
@@ -210,7 +210,7 @@ pub fn decode_element(t: FileType, element: &[u8], text: &mut [u8]) -> SlcElemen
 fn no_type(slc: Slc, s: Seen, memory_length: usize, log: &[u8]) -> u8
     ensures { λ r. ⌜ r ≡ noType (soundBy slc s «memory_length» (now (log .entry))) ⌝ }
 {
-    if element::sound(slc, s, memory_length, log) {
+    if soundness::sound(slc, s, memory_length, log) {
         return 19;
     }
     16
