@@ -5,7 +5,6 @@ use mathlib.Core.List.{List, [], _∷_, map}
 use Rattle.model.specs.declared.Answered.{Answered}
 use Rattle.model.specs.declared.Answered.the-variants as answered
 use Rattle.model.specs.declared.Done.{Done}
-use Rattle.model.specs.declared.FileRecord.{FileRecord}
 use Rattle.model.specs.declared.Slc.{Slc}
 use Rattle.model.specs.Pccc.{Left, left, heard, pcccOf, Says}
 use Rattle.model.specs.Step.{Call}
@@ -14,7 +13,7 @@ use Rattle.closed_files.specs.Calls as calls
 use Rattle.closed_files.specs.Closed.{Isolated}
 use Rattle.closed_files.proofs.Calls.{closed-file-rule-of-calls}
 use Rattle.link_processor.specs.declared.SlcDone.{SlcDone}
-use Rattle.link_processor.specs.Answers.{answeredTo, doneOf, SaysInNumbers}
+use Rattle.link_processor.specs.Answers.{answeredTo, doneOf}
 use Rattle.link_closed_files.specs.Exported.{Told, toldBy, Exports, no-call, one-call, ClosedFileRuleOfExports}
 
 -- what is heard of a call, in numbers

@@ -3,11 +3,9 @@ use Prim.Native.Nat.{ℕ}
 use mathlib.Core.Path.{_≡_, refl, ap, _∙_}
 use mathlib.Core.List.{List}
 use Rattle.build.specs.Plans.{Ended, ended}
-use Rattle.model.specs.declared.Answered.{Answered}
 use Rattle.model.specs.declared.Answered.the-variants as answered
 use Rattle.model.specs.declared.Built.{Built}
 use Rattle.model.specs.declared.Done.{Done}
-use Rattle.model.specs.declared.Made.{Made}
 use Rattle.model.specs.declared.Made.the-variants as made
 use Rattle.model.specs.Pccc.{Left, left}
 use Rattle.link_processor.specs.declared.SlcBuilt.{SlcBuilt}

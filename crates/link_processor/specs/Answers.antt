@@ -1,6 +1,6 @@
 -- What the calls of the processor answer, in the numbers of the C interface (slc_link.h).
 use Prim.Native.Nat.{ℕ}
-use mathlib.Core.Path.{_≡_, ap}
+use mathlib.Core.Path.{_≡_}
 use mathlib.Core.List.{List}
 use Rattle.build.specs.Plans.{Ended}
 use Rattle.model.specs.declared.Answered.{Answered}
@@ -12,7 +12,7 @@ use Rattle.model.specs.declared.Made.{Made}
 use Rattle.model.specs.declared.Made.the-variants as made
 use Rattle.model.specs.declared.Slc.{Slc}
 use Rattle.model.specs.Build.{Raised}
-use Rattle.model.specs.Pccc.{Left, left, pcccOf, Says}
+use Rattle.model.specs.Pccc.{Left, left, pcccOf}
 use Rattle.link_processor.specs.declared.SlcBuilt.{SlcBuilt}
 use Rattle.link_processor.specs.declared.SlcDone.{SlcDone}
 

@@ -1,6 +1,6 @@
 -- Values and elements in the numbers of the C interface (slc_link.h). A kind is 0 for a whole number, 1 for float bits, 2 for text, 3 for three
 -- words, 4 for a field.
-use Prim.Native.Nat.{ℕ, _%_, _^_, _-_}
+use Prim.Native.Nat.{ℕ, _%_}
 use mathlib.Core.Path.{_≡_}
 use mathlib.Core.Bool.{cond}
 use mathlib.Core.List.{List}
