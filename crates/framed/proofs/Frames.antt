@@ -1,17 +1,18 @@
 -- The frame of a reply, byte by byte, and its data behind it.
-use Prim.Native.Nat.{ℕ, _+_, _-_, _≤_, _<_}
+use Prim.Native.Nat.{ℕ, zero, suc, _+_, _-_, _≤_, _<_}
 use mathlib.Core.Path.{_≡_, refl, sym, ap, subst, _∙_}
 use mathlib.Core.Bool.{Bool, true, false, not, _&&_, cond}
 use mathlib.Core.List.{List, [], _∷_, _++_, append-assoc}
 use native.Mathlib.Nat.{add-zero, zero-add}
+use native.Mathlib.Numerals.{add-one}
 use native.Mathlib.Omega.{arith}
 use borrow.Author.Tests.{not-true, not-false, leb-true, leb-false, le-leb, lt-leb, lt-ltb, le-ltb}
 use lib.Bits.{bitOr}
 use lib.Dec.{leb, ltb}
 use lib.ListN.{length, getD, take, drop, set, length-set, length-append, List·getD-eq-default}
-use lib.Seq.{getD-drop, length-take-le}
+use lib.Seq.{drop-cons, getD-drop, length-take-le}
 use Rattle.base.specs.Put.{put, Wrote, Puts}
-use Rattle.base.proofs.Put.{put-none, put-one, put-cons, put-more, wrote-length, puts-full, puts-room, and-then}
+use Rattle.base.proofs.Put.{put-none, put-cons, put-more, wrote-length, puts-full, puts-room, and-then}
 use Rattle.model.specs.Frame.{wellFormed, requester, body, cmd, framed}
 use Rattle.model.proofs.Tests.{and-r}
 use Rattle.framed.specs.Reply.{replyTo}
@@ -51,50 +52,73 @@ module _ (c : List ℕ) (n : ℕ) (e : n ≡ getD c 0 0) where
       let w : wellFormed c ≡ true = sym g ∙ not-false ok h in
       subst (λ (k : ℕ). k + 4 ≤ length c) (sym e) (leb-true (getD c 0 0 + 4) (length c) (and-r (ltb 0 (length c) && ltb 0 (getD c 0 0)) _ w))
 
+-- ---- bytes one by one
+stored : List ℕ → ℕ → List ℕ → List ℕ
+stored l at [] = l
+stored l at (b ∷ bs) = stored (set l at b) (at + 1) bs
+
+stored-put : (bs l : List ℕ) (at : ℕ) → at + length bs ≤ length l → stored l at bs ≡ put l at bs
+unfolding stored
+stored-put [] l at h = sym (put-none l at)
+stored-put (b ∷ bs) l at h = stored-put bs (set l at b) (at + 1) (rw length-set (omega arith)) ∙ put-cons l at b bs (omega arith)
+
+loaded : List ℕ → ℕ → ℕ → List ℕ
+loaded c at zero = []
+loaded c at (suc k) = getD c at 0 ∷ loaded c (at + 1) k
+
+loaded-take : (c : List ℕ) (at k : ℕ) → at + k ≤ length c → loaded c at k ≡ take k (drop at c)
+unfolding loaded
+loaded-take c at zero h = refl
+loaded-take c at (suc k) h =
+    ap (λ (bs : List ℕ). getD c at 0 ∷ bs) (loaded-take c (at + 1) k (omega arith) ∙ ap (λ (j : ℕ). take k (drop j c)) (add-one at))
+    ∙ ap (take (suc k)) (sym (drop-cons c at 0 (omega arith)))
+
+-- ---- the requester id
+module _ (c l : List ℕ) (n : ℕ) (hc : n ≤ length c) (hl : n ≤ length l) where
+  pub id-length : n ≡ length (take n c)
+  id-length = sym (length-take-le n c hc)
+
+  pub id-put : {m : List ℕ} {r : ℕ} → Puts l 0 (take n c) r m → Wrote l 0 (take n c) r m
+  id-put p = p .room (omega (arith, id-length))
+
+  pub id-seven : n ≡ 7 → Wrote l 0 (take n c) 7 (set (set (set (set (set (set (set l 0 (getD c 0 0)) 1 (getD c 1 0)) 2 (getD c 2 0)) 3 (getD c 3 0)) 4 (getD c 4 0)) 5 (getD c 5 0)) 6 (getD c 6 0))
+  unfolding stored loaded
+  id-seven e = record {
+    end = omega (arith, id-length);
+    now = stored-put (loaded c 0 7) l 0 (omega arith) ∙ ap (put l 0) (loaded-take c 0 7 (omega arith)) ∙ ap (λ (k : ℕ). put l 0 (take k c)) (sym e);
+  }
+
 -- ---- the frame
 module _ (l : List ℕ) (n a b x y : ℕ) (h : n + 4 ≤ length l) where
   four : set (set (set (set l n a) (n + 1) b) (n + 2) x) (n + 3) y ≡ put l n (a ∷ b ∷ x ∷ y ∷ [])
+  unfolding stored
   four =
       let e₂ : n + 2 ≡ n + 1 + 1 = omega arith in
       let e₃ : n + 3 ≡ n + 1 + 1 + 1 = omega arith in
-      let l₁ : List ℕ = set l n a in
-      let l₂ : List ℕ = set l₁ (n + 1) b in
-      let l₃ : List ℕ = set l₂ (n + 1 + 1) x in
-      let k₁ : length l₁ ≡ length l = length-set l n a in
-      let k₂ : length l₂ ≡ length l₁ = length-set l₁ (n + 1) b in
-      let k₃ : length l₃ ≡ length l₂ = length-set l₂ (n + 1 + 1) x in
-      rw (e₂, e₃)
-      (put-one l₃ (n + 1 + 1 + 1) y (omega arith)
-      ∙ put-cons l₂ (n + 1 + 1) x (y ∷ []) (omega arith)
-      ∙ put-cons l₁ (n + 1) b (x ∷ y ∷ []) (omega arith)
-      ∙ put-cons l n a (b ∷ x ∷ y ∷ []) (omega arith))
+      rw (e₂, e₃) (stored-put (a ∷ b ∷ x ∷ y ∷ []) l n h)
 
 module _ (c l m : List ℕ) (n status r : ℕ) (e : n ≡ getD c 0 0) (hc : n + 4 ≤ length c) (hl : n + 4 ≤ length l) where
-  pub id-length : n ≡ length (take n c)
-  id-length = sym (length-take-le n c (omega arith))
+  laid : n ≡ length (take n c)
+  laid = id-length c l n (omega arith) (omega arith)
 
-  front : Puts l 0 (take n c) r m → Wrote l 0 (take n c) r m
-  front p = p .room (omega (arith, id-length))
-
-  pub laid-length : Puts l 0 (take n c) r m → length m ≡ length l
-  laid-length p = wrote-length (front p) (omega (arith, id-length))
+  pub laid-length : Wrote l 0 (take n c) r m → length m ≡ length l
+  laid-length w = wrote-length w (omega (arith, laid))
 
   bytes : framed c status [] ≡ take n c ++ (bitOr (getD c n 0) 0x40 ∷ status ∷ getD c (n + 2) 0 ∷ getD c (n + 3) 0 ∷ [])
   unfolding framed requester cmd body
   bytes = rw (← e, getD-drop n c 0 0, getD-drop n c 2 0, getD-drop n c 3 0, add-zero)
 
-  pub framed-there : Puts l 0 (take n c) r m
+  pub framed-there : Wrote l 0 (take n c) r m
       → Wrote l 0 (framed c status []) (n + 4) (set (set (set (set m n (bitOr (getD c n 0) 0x40)) (n + 1) status) (n + 2) (getD c (n + 2) 0)) (n + 3) (getD c (n + 3) 0))
-  framed-there p =
-      let w : Wrote l 0 (take n c) r m = front p in
+  framed-there w =
       let q : List ℕ = bitOr (getD c n 0) 0x40 ∷ status ∷ getD c (n + 2) 0 ∷ getD c (n + 3) 0 ∷ [] in
       let f : set (set (set (set m n (bitOr (getD c n 0) 0x40)) (n + 1) status) (n + 2) (getD c (n + 2) 0)) (n + 3) (getD c (n + 3) 0) ≡ put m n q =
-      four m n (bitOr (getD c n 0) 0x40) status (getD c (n + 2) 0) (getD c (n + 3) 0) (omega (arith, laid-length p)) in
-      let z : 0 + length (take n c) ≡ n = omega (arith, id-length) in
+      four m n (bitOr (getD c n 0) 0x40) status (getD c (n + 2) 0) (getD c (n + 3) 0) (omega (arith, laid-length w)) in
+      let z : 0 + length (take n c) ≡ n = omega (arith, laid) in
       let g : put (put l 0 (take n c)) n q ≡ put l 0 (framed c status []) =
-      ap (λ (k : ℕ). put (put l 0 (take n c)) k q) (sym z) ∙ put-more l 0 (take n c) (omega (arith, id-length)) q ∙ ap (put l 0) (sym bytes) in
+      ap (λ (k : ℕ). put (put l 0 (take n c)) k q) (sym z) ∙ put-more l 0 (take n c) (omega (arith, laid)) q ∙ ap (put l 0) (sym bytes) in
       record {
-        end = rw (bytes, length-append) (omega (arith, id-length));
+        end = rw (bytes, length-append) (omega (arith, laid));
         now = f ∙ ap (λ (x : List ℕ). put x n q) (w .now) ∙ g;
       }
 

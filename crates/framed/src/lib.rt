@@ -36,6 +36,25 @@ pub fn well_formed(command: &[u8]) -> bool
     n + 4 <= command.len()
 }
 
+// The requester id from the start of the reply memory. The usual id has 7 bytes: they are stored one by one, which a loop of unknown length isn't.
+fn put_id(command: &[u8], n: usize, reply: &mut [u8]) -> usize
+    requires { ⌜ n ≤ length (now command) ⌝ }
+    requires { ⌜ n ≤ length (now reply) ⌝ }
+    ensures { λ r. ⌜ Wrote (now (reply .entry)) 0 (take n (now (command .entry))) r (now (reply .exit)) ⌝ }
+{
+    if n != 7 {
+        return base::put_all(reply, 0, &command[..n]);
+    }
+    reply[0] = command[0];
+    reply[1] = command[1];
+    reply[2] = command[2];
+    reply[3] = command[3];
+    reply[4] = command[4];
+    reply[5] = command[5];
+    reply[6] = command[6];
+    7
+}
+
 // The id, CMD OR 0x40, status, TNS.
 fn frame(command: &[u8], n: usize, status: u8, reply: &mut [u8]) -> usize
     requires { ⌜ n ≡ getD (now command) 0 0 ⌝ }
@@ -43,7 +62,7 @@ fn frame(command: &[u8], n: usize, status: u8, reply: &mut [u8]) -> usize
     requires { ⌜ n + 4 ≤ length (now reply) ⌝ }
     ensures { λ r. ⌜ Wrote (now (reply .entry)) 0 (Frame·framed (now (command .entry)) status []) r (now (reply .exit)) ⌝ }
 {
-    base::put_all(reply, 0, &command[..n]);
+    put_id(command, n, reply);
     reply[n] = command[n] | 0x40;
     reply[n + 1] = status;
     reply[n + 2] = command[n + 2];

@@ -1,4 +1,4 @@
-use Rattle.framed.proofs.Frames.{id-length, laid-length, framed-there}
+use Rattle.framed.proofs.Frames.{laid-length, framed-there}
 use native.Mathlib.Omega.{arith}
 use lib.ListN.{length-set}
 use borrow.Author.Needs.{needs}
@@ -9,7 +9,6 @@ pub frame-spec : {M : Type 1} → statement M
 frame-spec =
     tie.close
     (tie.spec
-    (λ c. search (id-length, needs))
     (λ c κs. search needs)
     (λ c. search needs)
     (λ c. search needs)
