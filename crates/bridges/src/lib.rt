@@ -67,7 +67,7 @@ fn survey_on(rows: [FileRecord; 256], n: usize, number: u16) -> Seen
     let mut i: usize = 0;
     while i < m {
         let r = rows[i];
-        s = table::passed(s, r);
+        s = table::passed(s, r.number, r.code, r.start, r.length);
         i += 1;
     }
     table::conclude(s)

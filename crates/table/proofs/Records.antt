@@ -128,24 +128,30 @@ module _ (n held number : ℕ) where
   begun-well a b = simp (lt-ltb 0 n (positive n a), le-leb _ _ b)
 
 -- ---- `passed`
-module _ (s : Pass) (r : FileRecord) (b : Bool) (f : b ≡ followsOf (s .next) (s .total) r) where
+abbrev of : ℕ → ℕ → ℕ → ℕ → FileRecord
+of number code start length = record { number = number; code = code; start = start; length = length }
+
+module _ (s : Pass) (number code start length : ℕ) (b : Bool) (f : b ≡ followsOf (s .next) (s .total) (of number code start length)) where
+  abbrev r : FileRecord
+  r = of number code start length
+
   pub gets-lost : not b ≡ true → pass 65535 (s .total) (s .number) (foundBy s) ≡ passedOf s r
   unfolding passedOf
   gets-lost n = simp (← f, not-true b n)
 
   module _ (n : not b ≡ false) where
-    pub number-fits : Fits w16 (r .number + 1)
-    number-fits = record { fits = omega (arith, leb-true (r .number) 255 (follows-255 (s .next) (s .total) r (sym f ∙ not-false b n))) }
+    pub number-fits : Fits w16 (number + 1)
+    number-fits = record { fits = omega (arith, leb-true number 255 (follows-255 (s .next) (s .total) r (sym f ∙ not-false b n))) }
 
     -- a record that follows begins where the total is: below 65,536
-    pub total-fits : r .start < 65536 → r .length < 65536 → Fits w32 (s .total + r .length)
+    pub total-fits : start < 65536 → length < 65536 → Fits w32 (s .total + length)
     total-fits t l = record { fits = omega (arith, follows-at (s .next) (s .total) r (sym f ∙ not-false b n)) }
 
-    pub sees-it : r .number ≡ s .number → pass (r .number + 1) (s .total + r .length) (s .number) r ≡ passedOf s r
+    pub sees-it : number ≡ s .number → pass (number + 1) (s .total + length) (s .number) r ≡ passedOf s r
     unfolding passedOf
     sees-it h = simp (← f, not-false b n, eq-eqb _ _ h)
 
-    pub sees-other : (r .number ≡ s .number → ⊥) → pass (r .number + 1) (s .total + r .length) (s .number) (foundBy s) ≡ passedOf s r
+    pub sees-other : (number ≡ s .number → ⊥) → pass (number + 1) (s .total + length) (s .number) (foundBy s) ≡ passedOf s r
     unfolding passedOf
     sees-other h = simp (← f, not-false b n, ne-eqb _ _ h)
 

@@ -96,9 +96,16 @@ pub fn begin(n: usize, held: usize, number: u16) -> Pass
 }
 
 // What is seen with one record more. Each path makes a new struct: one that is handed on would go through memory.
-pub fn passed(s: Pass, r: FileRecord) -> Pass
-    ensures { λ u. ⌜ u ≡ passedOf s r ⌝ }
+// The record's fields come one by one: a record that is handed on whole is loaded whole, and taken apart by shifts.
+pub fn passed(s: Pass, number: u16, code: u8, start: u16, length: u16) -> Pass
+    ensures { λ u. ⌜ u ≡ passedOf s (record { number = number; code = code; start = start; length = length }) ⌝ }
 {
+    let r = FileRecord {
+        number,
+        code,
+        start,
+        length,
+    };
     if !follows(s.next, s.total, r) {
         return Pass {
             next: 65535,
@@ -206,7 +213,8 @@ pub fn survey(table: &[FileRecord], n: usize, number: u16) -> Seen
     let mut s = begin(n, table.len(), number);
     let mut i: usize = 0;
     while i < m {
-        s = passed(s, table[i]);
+        let r = &table[i];
+        s = passed(s, r.number, r.code, r.start, r.length);
         i += 1;
     }
     conclude(s)

@@ -1,4 +1,4 @@
--- `table::survey` meets its contract: it folds the first n records, with `begin` for its beginning and `surveyed` for its step (`Surveying.antt`), and the fold gives what the definition says (`Right.antt`).
+-- `table::survey` meets its contract: it folds the first n records, with `begin` for its beginning and `passed` for its step (`Surveying.antt`), and the fold gives what the definition says (`Right.antt`).
 use denote.Struct.Laws as LL
 use denote.Triple.Spec.{tripleOf}
 use denote.Triple.Table.{entered, cited}
