@@ -1,5 +1,4 @@
 use Rattle.framed.proofs.Frames.{laid-length, framed-there}
-use native.Mathlib.Omega.{arith}
 use lib.ListN.{length-set}
 use borrow.Author.Needs.{needs}
 use Rattle.framed.proofs.frame.Statement.{statement}
