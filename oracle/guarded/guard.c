@@ -521,18 +521,19 @@ static slc_done before_the_start(slc_processor s, const slc_file_record *t, size
 static sigjmp_buf fault;
 static void faulted(int signal) { siglongjmp(fault, signal); }
 
-static int found(pccc_call pccc, const char *what) {
+/* Is something found of the call, as it must be, or nothing, as it must be? */
+static int found(pccc_call pccc, const char *what, int wanted) {
     strays = 0;
     int signal = sigsetjmp(fault, 1);
     if (!signal) {
         used = 0;
         for (int i = 0; i < 1000; i++) i % 20 ? ask(pccc) : build();
     }
-    int ok = signal || strays;
+    int is = signal || strays;
     for (int k = 0; k < ARENAS; k++) memset(arena[k].low, PATTERN, ROOM);
     used = 0;
-    printf("%s: %s\n", what, ok ? "found" : "NOT FOUND");
-    return ok;
+    printf("%s: %s\n", what, is == wanted ? is ? "found" : "nothing found, as it must be" : "WRONG");
+    return is == wanted;
 }
 
 int main(int argc, char **argv) {
@@ -544,8 +545,9 @@ int main(int argc, char **argv) {
     signal(SIGBUS, faulted);
     state = 88172645463325252u;
     if (!strcmp(argv[1], "--faults"))
-        return !(found(behind, "a byte behind the reply") & found(other_file, "a byte of another file") & found(past_the_end, "a read past the command's end")
-                 & found(before_the_start, "a read before the command's start") & !found(slc_pccc, "the call itself, in which nothing is to be found"));
+        return !(found(behind, "a byte behind the reply", 1) & found(other_file, "a byte of another file", 1)
+                 & found(past_the_end, "a read past the command's end", 1) & found(before_the_start, "a read before the command's start", 1)
+                 & found(slc_pccc, "the call itself", 0));
     state ^= strtoull(argv[1], 0, 10) * 0x9E3779B97F4A7C15u;
     unsigned long n = argc > 2 ? strtoul(argv[2], 0, 10) : 1000000;
     int signal = sigsetjmp(fault, 1);
