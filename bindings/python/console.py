@@ -290,7 +290,8 @@ def calls(sim):
     }
 
 
-WITH_OUTPUT = {"read", "write", "proc", "datalogreq", "dirsizereq", "dirreadreq", "dir", "status", "errtext", "swap", "dec", "get", "cmd"}
+# as PROTOCOL.md has it: `room` has no effect on `swap`
+WITH_OUTPUT = {"read", "write", "proc", "datalogreq", "dirsizereq", "dirreadreq", "dir", "status", "errtext", "dec", "get", "cmd"}
 
 
 def values_of(shapes, fields):
