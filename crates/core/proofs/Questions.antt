@@ -21,7 +21,7 @@ use Rattle.query.specs.declared.Wants.the-variants as wants
 use Rattle.soundness.specs.Sound.{goodLogBy, soundBy}
 use Rattle.soundness.proofs.Surveyed.{log-good as log-of}
 use Rattle.table.specs.declared.Seen.{Seen}
-use Rattle.core.specs.Calls.{questionOf, questioned, respondOf, showOf}
+use Rattle.core.specs.Calls.{firstNo, questionOf, questioned, respondOf, showOf}
 use Rattle.core.specs.Steps.{Answers, tells, tellsBad, statusStep, popStep, readAt, readStep, writeAt, writeStep, valuesOf, obeyStep, sizeAsked, directoryLength, sizeBytes, directoryStep}
 use Rattle.located.specs.Locate.{locateBy}
 use Rattle.core.proofs.Replying.{kept}
@@ -52,14 +52,11 @@ module _ (slc : Slc) (s : Seen) (m log c reply : List ℕ) (n : ℕ) (e : n ≡ 
     room : 514 ≤ length reply
     well : wellFormed c ≡ true
 
-  abbrev pub first-no : Bool → Bool → Bool → ℕ
-  first-no b r w = cond b (cond r (cond w 0 18) 17) 16
-
   all-yes : Answered-yes
   unfolding questionOf
   all-yes = go (soundBy slc s (length m) log) refl (leb 514 (length reply)) refl (wellFormed c) refl (sym e ∙ z)
     where
-      go : (b : Bool) → soundBy slc s (length m) log ≡ b → (r : Bool) → leb 514 (length reply) ≡ r → (w : Bool) → wellFormed c ≡ w → first-no b r w ≡ 0 → Answered-yes
+      go : (b : Bool) → soundBy slc s (length m) log ≡ b → (r : Bool) → leb 514 (length reply) ≡ r → (w : Bool) → wellFormed c ≡ w → firstNo b r w ≡ 0 → Answered-yes
       go true p true q true u h = record { sound = p; room = leb-true 514 (length reply) q; well = u }
       go true p true q false u h = absurd (omega arith)
       go true p false q w u h = absurd (omega arith)

@@ -35,7 +35,7 @@ use Rattle.soundness.specs.Sound.{soundBy}
 use Rattle.soundness.proofs.Surveyed.{sound-is}
 use Rattle.table.specs.declared.Seen.{Seen}
 use Rattle.table.specs.Survey.{there, orNone, toldOf, lostOf, surveyOf}
-use Rattle.core.specs.Calls.{questionOf, questioned, respondOf, showOf}
+use Rattle.core.specs.Calls.{firstNo, questionOf, questioned, respondOf, showOf}
 use Rattle.core.specs.Steps.{tells, tellsBad, statusStep, popStep, readAt, readStep, valuesOf, writeAt, writeStep, obeyStep, sizeAsked, directoryLength, sizeBytes, directoryStep}
 use Rattle.located.specs.Locate.{locateBy}
 
@@ -202,10 +202,7 @@ questioned-is : (b : Bool) (room : ℕ) (c : List ℕ) (x : Step) → questioned
 unfolding questionOf
 questioned-is b room c x = go b (leb 514 room) (wellFormed c)
   where
-    first-no : Bool → Bool → Bool → ℕ
-    first-no b r w = cond b (cond r (cond w 0 18) 17) 16
-
-    go : (b r w : Bool) → questioned (first-no b r w) x ≡ cond b (cond r (cond w x (refuse 18)) (refuse 17)) (refuse 16)
+    go : (b r w : Bool) → questioned (firstNo b r w) x ≡ cond b (cond r (cond w x (refuse 18)) (refuse 17)) (refuse 16)
     go true true true = refl
     go true true false = refl
     go true false w = refl

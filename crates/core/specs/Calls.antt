@@ -16,13 +16,16 @@ use Rattle.core.specs.Steps.{obeyStep, directoryStep}
 
 -- "Is the state sound? no: 16. Has the reply memory 514 bytes? no: 17. Is the input not empty, its first byte not 0, and its length at least
 -- that byte plus 4? no: 18": the number of the first that is answered with no, 0 where none is
-unfoldable pub questionOf : Bool → ℕ → List ℕ → ℕ
-questionOf ok room c =
-    cond ok
-    (cond (leb 514 room)
-    (cond (wellFormed c) 0 18)
+abbrev pub firstNo : Bool → Bool → Bool → ℕ
+firstNo sound room well =
+    cond sound
+    (cond room
+    (cond well 0 18)
     17)
     16
+
+unfoldable pub questionOf : Bool → ℕ → List ℕ → ℕ
+questionOf sound room c = firstNo sound (leb 514 room) (wellFormed c)
 
 abbrev pub questioned : ℕ → Step → Step
 questioned n x = cond (eqb n 0) x (refuse n)
