@@ -15,7 +15,7 @@ use mir.Syntax.{w64, tyInt, tcons, tnil}
 use mir.Val.{vint, vcons, vnil}
 use Rattle.file_type.proofs.FileType as F
 use Rattle.file_type.proofs.FileType.Laws as F′
-use Rattle.table.proofs.Surveying.{State}
+use Rattle.table.proofs.Surveying.{State, of-enum}
 use Rattle.access.proofs.Accessing.{Wanted}
 
 abbrev pub spot : Wanted
@@ -45,21 +45,7 @@ setting = record {
 }
 
 abbrev pub element : State
-element = record {
-  row = E.the-row;
-  σ = E′.mir;
-  val = EL.val E.the-type E′.the-laws;
-  tells = EL.tells E.the-type E′.the-laws;
-  typed = λ 𝓤 H A W d w is. EL.lawful E.the-type E′.the-laws 𝓤 H A W tt .typed d _ is .0;
-  makes = λ 𝓤 H A W. EL.makes E.the-type E′.the-plain 𝓤 H A;
-}
+element = of-enum E.the-type E′.the-laws tt E′.the-plain
 
 abbrev pub stored : State
-stored = record {
-  row = O.the-row;
-  σ = O′.mir;
-  val = EL.val O.the-type O′.the-laws;
-  tells = EL.tells O.the-type O′.the-laws;
-  typed = λ 𝓤 H A W d w is. EL.lawful O.the-type O′.the-laws 𝓤 H A W tt .typed d _ is .0;
-  makes = λ 𝓤 H A W. EL.makes O.the-type O′.the-plain 𝓤 H A;
-}
+stored = of-enum O.the-type O′.the-laws tt O′.the-plain

@@ -29,7 +29,7 @@ use Rattle.query.proofs.Query as Q
 use Rattle.query.proofs.Query.Laws as Q′
 use Rattle.table.proofs.Seen as N
 use Rattle.table.proofs.Seen.Laws as N′
-use Rattle.table.proofs.Surveying.{State, Fold, ended as fold-ended}
+use Rattle.table.proofs.Surveying.{State, of-struct, Fold, ended as fold-ended}
 use Rattle.query.proofs.asked as ask′
 
 -- the machine values of the structs
@@ -43,7 +43,7 @@ abbrev pub seenv : Seen → Val
 seenv d = LL.val N.the-type N′.the-laws d
 
 abbrev pub seen : State
-seen = record { row = N.the-row; σ = N′.mir; val = seenv; tells = LL.tells N.the-type N′.the-laws; typed = λ 𝓤 H A W d w is. LL.lawful N.the-type N′.the-laws 𝓤 H A W .typed d _ is .0; makes = λ 𝓤 H A W. LL.makes N.the-type N′.the-plain 𝓤 H A }
+seen = of-struct N.the-type N′.the-laws N′.the-plain
 
 -- what is asked, what a core does, and what a call does
 abbrev pub AskDef : Type 0

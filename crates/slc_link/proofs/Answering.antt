@@ -4,7 +4,7 @@ use mir.Val.{vint, vcons, vnil}
 use denote.Builtin.{u8}
 use denote.Plain.{uint-tells, uint-lawful, uint-makes}
 use denote.Struct.Laws as LL
-use Rattle.table.proofs.Surveying.{State}
+use Rattle.table.proofs.Surveying.{State, of-struct}
 use Rattle.access.proofs.Accessing.{Wanted}
 use Rattle.link_processor.proofs.SlcBuilt as B
 use Rattle.link_processor.proofs.SlcBuilt.Laws as B′
@@ -20,34 +20,13 @@ use Rattle.link_processor.proofs.elements.SlcValue as A
 use Rattle.link_processor.proofs.elements.SlcValue.Laws as A′
 
 abbrev pub built : State
-built = record {
-  row = B.the-row;
-  σ = B′.mir;
-  val = LL.val B.the-type B′.the-laws;
-  tells = LL.tells B.the-type B′.the-laws;
-  typed = λ 𝓤 H A W d w is. LL.lawful B.the-type B′.the-laws 𝓤 H A W .typed d _ is .0;
-  makes = λ 𝓤 H A W. LL.makes B.the-type B′.the-plain 𝓤 H A;
-}
+built = of-struct B.the-type B′.the-laws B′.the-plain
 
 abbrev pub done : State
-done = record {
-  row = D.the-row;
-  σ = D′.mir;
-  val = LL.val D.the-type D′.the-laws;
-  tells = LL.tells D.the-type D′.the-laws;
-  typed = λ 𝓤 H A W d w is. LL.lawful D.the-type D′.the-laws 𝓤 H A W .typed d _ is .0;
-  makes = λ 𝓤 H A W. LL.makes D.the-type D′.the-plain 𝓤 H A;
-}
+done = of-struct D.the-type D′.the-laws D′.the-plain
 
 abbrev pub element : State
-element = record {
-  row = E.the-row;
-  σ = E′.mir;
-  val = LL.val E.the-type E′.the-laws;
-  tells = LL.tells E.the-type E′.the-laws;
-  typed = λ 𝓤 H A W d w is. LL.lawful E.the-type E′.the-laws 𝓤 H A W .typed d _ is .0;
-  makes = λ 𝓤 H A W. LL.makes E.the-type E′.the-plain 𝓤 H A;
-}
+element = of-struct E.the-type E′.the-laws E′.the-plain
 
 -- a number
 abbrev pub number : State

@@ -41,6 +41,11 @@ use denote.Signature.{Signature, plain}
 use denote.Slice.{sliceTy, sliceVal, ShrSlice, slice-vals, shr-slice-tells, shr-slice-lawful, shr-slice-copy}
 use denote.Steps.{only, owned, peeks, heard, nothing}
 use denote.Struct.Laws as LL
+use denote.Struct.Struct.{layout, Plains}
+use denote.Struct.Declared as structs
+use denote.Enum.Laws as EL
+use denote.Enum.Enum.{Few, Plainss, layout as enum-layout}
+use denote.Enum.Declared as enums
 use denote.Triple.Statement.{Contract, Triple}
 use denote.Triple.Call.{calls-at}
 use denote.Triple.Clauses.{Clauses, Ended, closing, ensured, lasts}
@@ -82,6 +87,27 @@ pub record State : Type 2 where
   pub tells : Tells row (Is row) (λ d. val d ∷ [])
   pub typed : {M : Type 1} (𝓤 : URA M) (H : Heap 𝓤) (A : Atoms 𝓤) → Given 𝓤 H A → (d : row .Denot) (w : Val) → Is row d (w ∷ []) → Holds (hasTy σ w) × WT w
   pub makes : {M : Type 1} (𝓤 : URA M) (H : Heap 𝓤) (A : Atoms 𝓤) → Given 𝓤 H A → Makes 𝓤 H A row (Is row)
+
+-- a struct, and an enum, of plain data
+abbrev pub of-struct : (T : structs.Declared) → LL.Laws T → Plains (structs.fields T) → State
+of-struct T L plain = record {
+  row = structs.row T;
+  σ = layout (structs.shape T);
+  val = LL.val T L;
+  tells = LL.tells T L;
+  typed = λ 𝓤 H A W d w is. LL.lawful T L 𝓤 H A W .typed d _ is .0;
+  makes = λ 𝓤 H A W. LL.makes T plain 𝓤 H A;
+}
+
+abbrev pub of-enum : (T : enums.Declared) → EL.Laws T → Few (enums.shape T) → Plainss (enums.variants T) → State
+of-enum T L few plain = record {
+  row = enums.row T;
+  σ = enum-layout (enums.shape T);
+  val = EL.val T L;
+  tells = EL.tells T L;
+  typed = λ 𝓤 H A W d w is. EL.lawful T L 𝓤 H A W few .typed d _ is .0;
+  makes = λ 𝓤 H A W. EL.makes T plain 𝓤 H A;
+}
 
 -- ---- the three functions: their signatures and clauses, and the MIR of the fold
 abbrev slice : Ty

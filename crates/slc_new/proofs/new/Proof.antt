@@ -1,6 +1,5 @@
 -- `slc_new::new` judges, lays the records and finishes (`Building.antt`); that this is the model's `newOf` is `build`'s `new-is`.
 use mathlib.Core.Path.{_≡_}
-use denote.Struct.Laws as LL
 use contract.Running.{givenOf, tables, tablesOf}
 use denote.Triple.Spec.{tripleOf}
 use denote.Triple.Table.{entered, cited}
@@ -15,7 +14,7 @@ use Rattle.build.proofs.judge.Met as judge-thm
 use Rattle.build.proofs.finish.Symbol as finish-def
 use Rattle.build.proofs.finish.Symbol.{name as #build·finish}
 use Rattle.build.proofs.finish.Met as finish-thm
-use Rattle.table.proofs.Surveying.{State}
+use Rattle.table.proofs.Surveying.{State, of-struct}
 use Rattle.shapes.proofs.Laying.{Lays}
 use Rattle.slc_new.proofs.Building.{Said, Owes, Fits, Judges, Finishes, new-meets}
 use Rattle.slc_new.proofs.lay.Symbol as lay-def
@@ -27,14 +26,7 @@ use Rattle.slc_new.proofs.new.Statement as stated
 use Rattle.slc_new.proofs.new.Code as code
 
 abbrev built : State
-built = record {
-  row = B.the-row;
-  σ = B′.mir;
-  val = LL.val B.the-type B′.the-laws;
-  tells = LL.tells B.the-type B′.the-laws;
-  typed = λ 𝓤 H A W d w is. LL.lawful B.the-type B′.the-laws 𝓤 H A W .typed d _ is .0;
-  makes = λ 𝓤 H A W. LL.makes B.the-type B′.the-plain 𝓤 H A;
-}
+built = of-struct B.the-type B′.the-laws B′.the-plain
 
 -- what the last function says, and what the call does
 abbrev said : Said built

@@ -1,11 +1,10 @@
 -- `table::survey` meets its contract: it folds the first n records, with `begin` for its beginning and `passed` for its step (`Surveying.antt`), and the fold gives what the definition says (`Right.antt`).
-use denote.Struct.Laws as LL
 use denote.Triple.Spec.{tripleOf}
 use denote.Triple.Table.{entered, cited}
 use contract.Running.{givenOf, tables, tablesOf}
 use Rattle.table.specs.Steps.{begunOf, passedOf, concludedOf}
 use Rattle.table.specs.Survey.{surveyOf}
-use Rattle.table.proofs.Surveying.{State, Bounds, Begins, Steps, Ends, fold-meets}
+use Rattle.table.proofs.Surveying.{State, of-struct, Bounds, Begins, Steps, Ends, fold-meets}
 use Rattle.table.proofs.Right.{survey-right}
 use Rattle.table.proofs.Pass as P
 use Rattle.table.proofs.Pass.Laws as P′
@@ -29,24 +28,10 @@ use Rattle.table.proofs.survey.Statement as stated
 use Rattle.table.proofs.survey.Code as code
 
 abbrev state : State
-state = record {
-  row = P.the-row;
-  σ = P′.mir;
-  val = LL.val P.the-type P′.the-laws;
-  tells = LL.tells P.the-type P′.the-laws;
-  typed = λ 𝓤 H A W d w is. LL.lawful P.the-type P′.the-laws 𝓤 H A W .typed d _ is .0;
-  makes = λ 𝓤 H A W. LL.makes P.the-type P′.the-plain 𝓤 H A;
-}
+state = of-struct P.the-type P′.the-laws P′.the-plain
 
 abbrev result : State
-result = record {
-  row = S.the-row;
-  σ = S′.mir;
-  val = LL.val S.the-type S′.the-laws;
-  tells = LL.tells S.the-type S′.the-laws;
-  typed = λ 𝓤 H A W d w is. LL.lawful S.the-type S′.the-laws 𝓤 H A W .typed d _ is .0;
-  makes = λ 𝓤 H A W. LL.makes S.the-type S′.the-plain 𝓤 H A;
-}
+result = of-struct S.the-type S′.the-laws S′.the-plain
 
 pub survey-spec : {M : Type 1} → stated.statement M
 unfolding code.routine tablesOf
