@@ -5,6 +5,7 @@ pub mod Files
 pub mod Asked
 pub mod Steps
 pub mod Plain
+pub mod Leaves
 pub mod Directory
 pub mod Replies
 pub mod Building
