@@ -114,17 +114,55 @@ fn every(p: &mut Pair, t: &mut Tally, id: &[u8]) {
     extend(p, t, &mut command, &[&HEADS[..1], &known, &sizes, &FILES, &codes, &ELEMENTS, &LAST, &TAILS]);
 }
 
-pub fn all(t: &mut Tally) {
+/// The three processors, with the requester's id that each is asked with.
+fn pairs() -> [(Pair, &'static [u8]); 3] {
     use FileType::*;
     let types = [O, I, S, B, T, C, R, N, F, ST, A, L];
     let twelve: Vec<(u32, FileType, u32)> = types.iter().zip([0, 1, 2, 3, 4, 5, 7, 9, 100, 200, 254, 255]).map(|(&f, n)| (n, f, 3)).collect();
-    let pairs = [
-        (Pair::new("1747-L552", &[], &["a", "two", ""]), &[7, 9, 16, 9, 16, 25, 113][..]),
-        (Pair::new("1766-LEC", &twelve, &[]), &[1, 0][..]),
-        (Pair::new("", &[(7, N, 128), (255, N, 1)], &["entry"]), &[2, 1, 2][..]),
-    ];
-    for (mut p, id) in pairs {
+    [
+        (Pair::new("1747-L552", &[], &["a", "two", ""]), &[7, 9, 16, 9, 16, 25, 113]),
+        (Pair::new("1766-LEC", &twelve, &[]), &[1, 0]),
+        (Pair::new("", &[(7, N, 128), (255, N, 1)], &["entry"]), &[2, 1, 2]),
+    ]
+}
+
+pub fn all(t: &mut Tally) {
+    for (mut p, id) in pairs() {
         every(&mut p, t, id);
+        if t.spoilt {
+            return;
+        }
+    }
+}
+
+/// A number as an address field: one byte below 255, else FF and a word.
+fn address(n: u16) -> Vec<u8> {
+    if n < 255 { vec![n as u8] } else { [&[0xFF], &n.to_le_bytes()[..]].concat() }
+}
+
+/// Every read of 0 to 255 bytes, and every write of 0 to 7, from each element on and from each of its first five words, to the second element behind the end.
+pub fn bounds(t: &mut Tally) {
+    for (mut p, id) in pairs() {
+        let files: Vec<(u16, u8, usize)> = access::files(&p.rust).iter().map(|(n, code, bytes)| (*n, *code, bytes.len())).collect();
+        for (number, code, length) in files {
+            let elements = length / access::element_size(code).expect("one of the twelve");
+            for element in 0..elements as u16 + 2 {
+                for word in 0..5 {
+                    let place = |function: u8, size: u8| {
+                        let head = [id, &[0x0F, 0, 0x34, 0x12, function, size]].concat();
+                        [head, address(number), vec![code], address(element), address(word)].concat()
+                    };
+                    for size in 0..=255 {
+                        p.ask(t, &place(0xA2, size));
+                    }
+                    for size in 0..8u8 {
+                        let values: Vec<u8> = (0..size).map(|i| element as u8 ^ word as u8 ^ size << 4 ^ i).collect();
+                        p.ask(t, &[place(0xAA, size), values.clone()].concat());
+                        p.ask(t, &[place(0xAB, size), vec![0x0F, 0xA5], values].concat());
+                    }
+                }
+            }
+        }
         if t.spoilt {
             return;
         }

@@ -43,11 +43,12 @@ impl Tally {
 
 type Area = (&'static str, &'static str, fn(&mut Tally));
 
-const AREAS: [Area; 7] = [
+const AREAS: [Area; 8] = [
     ("short", "every text of at most 4 bytes below 128: parse_tag, and read_request where it is accepted", texts::short),
     ("signs", "every text of at most 7 of the signs N T I S 7 1 0 : . / { } P: the same", texts::signs),
     ("forms", "15 beginnings, as N7: and T4:1, with at most 5 of 19 signs behind: the same", texts::forms),
     ("commands", "every command made of the fields that commands.rs lists, to three processors: pccc, and the files that it leaves", commands::all),
+    ("bounds", "every read of 0 to 255 bytes and every write of 0 to 7, from every element and each of its first five words, of every file: the same", commands::bounds),
     ("rows", "every directory of at most 6 of the bytes 00 01 82 83 89 8D FF, with rows of 1 to 4 bytes from byte 0 to 3 on: parse_file_directory", rows::all),
     ("replies", "every status with every extended one, in raw replies of every length to 64; every size of a directory: request_status, parse_datalog, parse_file_directory_size", replies::all),
     ("words", "every word as N, S, B, O and I, and every whole number from -70,000 to 70,000: decode_element, encode_element", words::all),
