@@ -6,8 +6,8 @@
  *
  * What a caller gets. Every call ends, reads and writes only what it is lent, keeps nothing of it and allocates nothing. `refused` is 0, or
  * the number of the question that was answered with no; behind "Refused:" stand the questions that a call asks. A refused call changes no
- * lent byte, and its other fields are 0 unless it says otherwise. A call that isn't refused writes what it says, from the start of the
- * memory, and nothing behind it.
+ * lent byte, and its other fields are 0 unless it says otherwise. A call that isn't refused writes what it says and nothing else: an output
+ * from its start on, the `memory` of slc_set and slc_pccc only at the element or the bytes that are named.
  *
  *   1  Is the tag at most 255 bytes, each below 128?
  *   2  Does the tag spell an address?
@@ -114,7 +114,7 @@ typedef struct {
     uint16_t sub_element;
     uint8_t bit;                /* 1: the tag names a bit, or a field of T or C */
     uint64_t element_count;
-    size_t kept;                /* bytes of the tag without its count */
+    size_t kept;                /* bytes of the tag that are kept: those before {, or all of C, of T, and of S with a bit */
 } slc_address;
 
 typedef struct { uint8_t vid[2]; uint8_t vsn[4]; } slc_requestor;       /* who asks: vendor and serial bytes, as sent */

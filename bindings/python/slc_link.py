@@ -474,7 +474,8 @@ def decode_element(code, element, room=TEXT_ROOM):
 
 
 class Address(NamedTuple):
-    """The address that a tag spells. `bit` is true where the tag names a bit, or a field of T or C; `kept` counts the tag without its count."""
+    """The address that a tag spells. `bit` is true where the tag names a bit, or a field of T or C; `kept` counts
+    the bytes of the tag that are kept: those before `{`, or all of C, of T, and of S with a bit."""
     code: FileCode
     file_number: int
     element_number: int

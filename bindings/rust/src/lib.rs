@@ -4,7 +4,7 @@
 //! Every call is a proved function of the library `libslc_link.a`; this package lends it slices and turns its answers into enums. A call that
 //! the library refuses is an [`Err`] with the number of the question that was answered with no ([`Refused`]); it changes no lent byte. Output
 //! goes to slices that the caller lends, and what was written is handed back as a part of them. Nothing is allocated but by
-//! [`Processor::new`].
+//! [`Processor::new`] and by cloning a [`Processor`].
 //!
 //! ```
 //! use slc_link::{read_request, FileType, Processor, Refused, Requestor, Spot, Value, REPLY_ROOM, REQUEST_ROOM};

@@ -11,13 +11,13 @@ pub struct Address {
     pub element_number: u16,
     /// The position; only I and O have one.
     pub position: Option<u16>,
-    /// The bit, or what the name of a field stands for: PRE 1, ACC 2, else a bit.
+    /// The bit, or what the name of a field stands for: PRE 1, ACC 2, else a bit. On I and O it is 0 where no bit is named.
     pub sub_element: Option<u16>,
     /// Whether the tag names a bit, or a field of T or C.
     pub bit: bool,
     /// The count.
     pub element_count: u64,
-    /// Bytes of the tag without its count.
+    /// Bytes of the tag that are kept: those before `{`, or all of C, of T, and of S with a bit.
     pub kept: usize,
 }
 

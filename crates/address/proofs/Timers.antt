@@ -16,8 +16,8 @@ use Rattle.base.specs.Chars.{bytes, spelled}
 use Rattle.parts.specs.Numbers.{Run, digitRun, numberOf}
 use Rattle.parts.specs.Parts.{then, here, orElse, oneByte}
 use Rattle.parts.proofs.Reading.{one-end, one-at, here-no, here-yes}
-use Rattle.address.specs.Answers.{maybeOf, namedOf}
-use Rattle.address.specs.Spelling.{ctNames, ctName, ctValue, nameIn, cut, cuts, elementName}
+use Rattle.address.specs.Answers.{maybeOf, namedOf, ctName, ctValue}
+use Rattle.address.specs.Spelling.{ctNames, nameIn, cut, cuts, elementName}
 use Rattle.address.specs.declared.Maybe.{Maybe}
 use Rattle.address.specs.declared.Maybe.the-variants as maybe
 use Rattle.address.specs.declared.Named.{Named}

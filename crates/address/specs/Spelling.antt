@@ -6,7 +6,7 @@ use mathlib.Core.List.{List, [], _∷_}
 use mathlib.Core.Option.{Option, none, some}
 use mathlib.Core.Bool.{Bool, true, false, _&&_, not, cond}
 use lib.Dec.{leb, ltb, eqb}
-use lib.ListN.{length, take, drop, getD}
+use lib.ListN.{length, take, drop}
 use Rattle.base.specs.Chars.{bytes, spelled}
 use Rattle.file_type.specs.declared.FileType.{FileType}
 use Rattle.file_type.specs.declared.FileType.the-variants.{O, I, S, B, T, C, N, F, ST, A, L}
@@ -67,12 +67,6 @@ bitCount = do b ← optionalBit; n ← count; give (b, n)
 unfoldable pub ctNames : List (String × ℕ)
 ctNames =
     ("PRE", 1) ∷ ("ACC", 2) ∷ ("EN", 15) ∷ ("TT", 14) ∷ ("DN", 13) ∷ ("CU", 15) ∷ ("CD", 14) ∷ ("OV", 12) ∷ ("UN", 11) ∷ ("UA", 10) ∷ []
-
-abbrev pub ctName : ℕ → List ℕ
-ctName i = bytes (getD ctNames i ("", 0) .0)
-
-abbrev pub ctValue : ℕ → ℕ
-ctValue i = getD ctNames i ("", 0) .1
 
 -- "then exactly one name": all the rest spells it
 unfoldable pub nameIn : List (String × ℕ) → Part ℕ

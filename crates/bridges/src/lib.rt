@@ -13,10 +13,10 @@ ghost use mathlib.Core.Path.{_≡_};
 ghost use lib.ListN.{length, replicate};
 ghost use Rattle.decode.specs.Decode.{Reads};
 ghost use Rattle.encode.specs.Encode.{Stores};
-ghost use Rattle.model.specs.Build.{newOf};
+ghost use Rattle.model.specs.Build.{newOf, planOf, raised};
 ghost use Rattle.model.specs.Elements.{readOf, setOf};
 ghost use Rattle.model.specs.Plain.{stateOf};
-ghost use Rattle.build.specs.Plans.{planOf, laidOf, raised};
+ghost use Rattle.build.specs.Plans.{laidOf};
 ghost use Rattle.table.specs.Survey.{noRecord, surveyOf};
 
 // A processor that was built, and its file records.

@@ -11,12 +11,12 @@ use lib.ListN.{length, take, drop, getD, replicate}
 use lib.Seq.{take-at, take-all}
 use Rattle.swap.specs.Text.{fitted}
 use Rattle.model.specs.declared.FileRecord.{FileRecord}
-use Rattle.model.specs.Build.{Wanted, wantedOf, defaults, orDefaults, has, fileRefusal, recordsOf, planned, fits, logFits, orThen, buildRefusal}
+use Rattle.model.specs.Build.{Wanted, wantedOf, defaults, orDefaults, has, fileRefusal, recordsOf, planned, fits, logFits, orThen, buildRefusal, planOf}
 use Rattle.model.specs.Plain.{entries, holds}
 use Rattle.model.specs.State.{knownCode, total, goodText, goodLog}
 use Rattle.build.specs.declared.Judged.{Judged}
 use Rattle.build.specs.Numbers.{refusalNumber, filesRefused}
-use Rattle.build.specs.Plans.{planOf, refusedWith, judged, judgedOf, roomFor, listJudged, noRecord, narrowed, recordOf}
+use Rattle.build.specs.Plans.{refusedWith, judged, judgedOf, roomFor, listJudged, noRecord, narrowed, recordOf}
 
 -- ---- 14
 module _ (records bytes t m : ℕ) where

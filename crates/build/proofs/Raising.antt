@@ -15,13 +15,13 @@ use Rattle.base.specs.Put.{put}
 use Rattle.parts.proofs.Held.{no-some}
 use Rattle.model.specs.declared.Built.{Built}
 use Rattle.model.specs.declared.FileRecord.{FileRecord}
-use Rattle.model.specs.Build.{Wanted, wantedOf, orDefaults, has, fileRefusal, Plan, planned, fits, logFits, orThen, buildRefusal, slcOf, raise, newOf}
+use Rattle.model.specs.Build.{Wanted, wantedOf, orDefaults, has, fileRefusal, Plan, planned, fits, logFits, orThen, buildRefusal, slcOf, raise, newOf, planOf, raised}
 use Rattle.model.specs.State.{every, elementSize, knownCode, goodRecord, endToEnd, total, goodText, goodTable}
 use Rattle.model.proofs.Building.{builtState, built-sound}
 use Rattle.model.proofs.Files.{sound-table}
 use Rattle.model.proofs.Tests.{and-l, and-r}
 use Rattle.build.specs.declared.Judged.{Judged}
-use Rattle.build.specs.Plans.{planOf, refusedWith, judged, judgedOf, noRecord, narrowed, recordOf, stored, laidOf, Ended, ended, slcWith, finishOf, raised}
+use Rattle.build.specs.Plans.{refusedWith, judged, judgedOf, noRecord, narrowed, recordOf, stored, laidOf, Ended, ended, slcWith, finishOf}
 use Rattle.build.proofs.Sizes.{size-above}
 
 -- ---- the records of a good table are as narrow as their fields

@@ -11,13 +11,9 @@ use Rattle.model.specs.declared.Built.{Built}
 use Rattle.model.specs.declared.FileRecord.{FileRecord}
 use Rattle.model.specs.declared.Made.the-variants as made
 use Rattle.model.specs.declared.Slc.{Slc}
-use Rattle.model.specs.Build.{wantedOf, orDefaults, fileRefusal, recordsOf, Plan, planned, fits, logFits, orThen, buildRefusal, noSlc, Raised}
+use Rattle.model.specs.Build.{wantedOf, orDefaults, fileRefusal, recordsOf, Plan, planned, fits, logFits, orThen, buildRefusal, noSlc}
 use Rattle.model.specs.State.{total, goodText}
 use Rattle.build.specs.declared.Judged.{Judged}
-
--- the plan that plain data stands for; a file is its number, its type code and how many elements it has
-abbrev pub planOf : List (List ℕ) → List ℕ → List ℕ → ℕ → Plan
-planOf files text log count = record { files = map wantedOf files; text = text; log = log; count = count }
 
 -- the number of the question that was answered with no; or 0, how many records there are, and how many bytes the files have
 unfoldable pub refusedWith : ℕ → Judged
@@ -84,7 +80,3 @@ finishOf j text count memory =
     cond (eqb (j .refused) 0)
     (ended (record { slc = slcWith (j .records) text count; made = made.Ready }) (put memory 0 (replicate (min (j .total) (length memory)) 0)))
     (ended (record { slc = noSlc; made = made.Refused (j .refused) }) memory)
-
--- what the parts give together
-abbrev pub raised : Built → List FileRecord → List ℕ → Raised
-raised b t m = record { built = b; table = t; memory = m }

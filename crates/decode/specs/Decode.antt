@@ -37,6 +37,8 @@ textIn room s = cond (ltb room 82) (refuses 24) (text s)
 abbrev pub wordAt : ℕ → List ℕ → ℕ
 wordAt at bytes = number (take 2 (drop at bytes))
 
+-- an element's value by its kind: numbers low byte first, a text's length held to 82, "T, C, R read as words 1, 2 and those bits; all words and longs
+-- read signed"; 20 where no kind of value suits
 abbrev pub decodeAs : Kind → FileType → List ℕ → ℕ → Says
 decodeAs kind.Word t bytes room = whole (signed 0xFFFF (wordAt 0 bytes))
 decodeAs kind.Long t bytes room = whole (signed 0xFFFFFFFF (number (take 4 bytes)))
@@ -46,6 +48,7 @@ decodeAs kind.Line t bytes room = textIn room (take (min 82 (wordAt 0 bytes)) (s
 decodeAs kind.Fields t bytes room = fields (signed 0xFFFF (wordAt 2 bytes)) (signed 0xFFFF (wordAt 4 bytes)) (namedBits t (wordAt 0 bytes))
 decodeAs kind.Other t bytes room = refuses 20
 
+-- 19: does the element lie in the bytes? Then 20, then 24
 unfoldable pub decoded : FileType → List ℕ → ℕ → Says
 decoded t bytes room = cond (ltb (length bytes) (row t .size)) (refuses 19) (decodeAs (kindOf t) t bytes room)
 

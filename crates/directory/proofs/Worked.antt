@@ -29,6 +29,11 @@ pub directories : (listed 0 3 some 3 ∷ listed 3 3 some 3 ∷ listed 3 2 some 3
 unfolding listed rows rowsIn anyCut filesFrom number ofCode first
 directories = refl
 
+-- 7 comes before 8: 65,536 bytes, then 65,535
+pub lengths : (listed 0 0 (replicate 65536 0) 0 ∷ listed 0 0 (replicate 65535 0) 0 ∷ []) ≡ (refuses 7 ∷ refuses 8 ∷ [])
+unfolding listed
+lengths = refl
+
 -- a reply that has these bytes from byte 61 on
 abbrev from61 : List ℕ → List ℕ
 from61 s = replicate 61 0 ++ s

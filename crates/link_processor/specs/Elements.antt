@@ -29,7 +29,8 @@ use Rattle.link_processor.specs.declared.elements.SlcValue.{SlcValue}
 unfoldable pub lowHalf : ℤ → ℕ
 lowHalf z = twos 0xFFFFFFFFFFFFFFFF z % 0x100000000
 
--- a value that doesn't suit the type: text suits A and ST alone
+-- a value that doesn't suit the type, which a value of an unknown kind stands for, so that it is refused with 20 behind 19 (proofs/Numbers.antt, `other-kind`);
+-- text suits A and ST alone
 abbrev pub misfitFor : Kind → Value
 misfitFor kind.Word = value.Text
 misfitFor kind.Long = value.Text

@@ -134,6 +134,22 @@ pub sound-rows :
 unfolding all
 sound-rows = refl
 
+-- the bounds of a sound state: 65,535 bytes in a memory that holds more, text below 128, 64 entries, 255 bytes in each
+abbrev soundIn : ℕ → List ℕ → List (List ℕ) → List FileRecord → Bool
+soundIn room text log rs = sound (record { records = rs; memory = replicate room 0; typeText = text; datalog = log })
+
+pub bound-rows :
+    (soundIn 65538 [] [] (file 1 0x89 0 65534 ∷ [])
+    ∷ soundIn 65538 [] [] (file 1 0x89 0 65534 ∷ file 2 0x89 65534 4 ∷ [])
+    ∷ soundIn 2 (0x7F ∷ []) (replicate 64 (replicate 255 0)) (file 1 0x89 0 2 ∷ [])
+    ∷ soundIn 2 (0x80 ∷ []) [] (file 1 0x89 0 2 ∷ [])
+    ∷ soundIn 2 [] (replicate 65 []) (file 1 0x89 0 2 ∷ [])
+    ∷ soundIn 2 [] (replicate 256 0 ∷ []) (file 1 0x89 0 2 ∷ [])
+    ∷ [])
+    ≡ (true ∷ false ∷ true ∷ false ∷ false ∷ false ∷ [])
+unfolding all
+bound-rows = refl
+
 abbrev slc : ℕ → ℕ → ℕ → ℕ → Slc
 slc files textLength at left = record { files = files; «type_text» = replicate 11 0x41; «type_len» = textLength; «log_at» = at; «log_left» = left }
 

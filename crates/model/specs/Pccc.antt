@@ -58,6 +58,7 @@ abbrev pub leftBy : Step → Slc → List ℕ → List ℕ → List ℕ → Left
 leftBy x slc memory log reply =
     left (record { slc = slcLeft (x .effect) slc log; answered = answeredOf (x .answer) }) (memoryLeft (x .effect) memory) (replyLeft (x .answer) reply)
 
+-- "Command": 16, 17 and 18, then what the processor does, on the plain data that it was lent
 unfoldable pub pcccOf : Slc → List FileRecord → List ℕ → List ℕ → List ℕ → List ℕ → Left Done
 pcccOf slc table memory log command reply = leftBy (step (stateOf slc table memory log) command (length reply)) slc memory log reply
 

@@ -38,6 +38,7 @@ unfoldable pub popped : List ℕ → List (List ℕ) → Step
 popped c [] = record { answer = replied (framed c 0x10 []); effect = keeps }
 popped c (e ∷ es) = record { answer = replied (framed c 0 e); effect = takes }
 
+-- what a command that was asked does: a status that isn't 0 changes nothing, "an accepted write sets each word ..", a read and an answer change nothing
 unfoldable pub perform : State → List ℕ → Ask → Step
 perform s c (fail n x) = record { answer = replied (framed c n x); effect = keeps }
 perform s c (tell bs) = record { answer = replied (framed c 0 bs); effect = keeps }

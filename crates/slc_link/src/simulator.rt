@@ -1,8 +1,7 @@
 // The simulated processor, over the lent table.
 ghost use lib.ListN.{length};
-ghost use Rattle.build.specs.Plans.{planOf};
 ghost use Rattle.file_type.specs.Table.{ofCode};
-ghost use Rattle.model.specs.Build.{newOf};
+ghost use Rattle.model.specs.Build.{newOf, planOf};
 ghost use Rattle.model.specs.Plain.{stateOf};
 ghost use Rattle.link_processor.specs.Access.{readIn, setIn};
 ghost use Rattle.link_processor.specs.Answers.{SaysInNumbers, Raises};

@@ -44,7 +44,8 @@ use Rattle.model.specs.declared.FileRecord.{FileRecord}
 use Rattle.model.proofs.FileRecord as T
 use Rattle.model.proofs.FileRecord.Laws as T′
 use Rattle.build.specs.declared.Judged.{Judged}
-use Rattle.build.specs.Plans.{planOf, judgedOf, laidOf}
+use Rattle.model.specs.Build.{planOf}
+use Rattle.build.specs.Plans.{judgedOf, laidOf}
 use Rattle.build.proofs.Judged as J
 use Rattle.build.proofs.Judged.Laws as J′
 use Rattle.build.proofs.judge as judge

@@ -2,8 +2,8 @@
 use model::Built;
 use model::FileRecord;
 ghost use mathlib.Core.Path.{_≡_};
-ghost use Rattle.model.specs.Build.{newOf};
-ghost use Rattle.build.specs.Plans.{planOf, laidOf, raised};
+ghost use Rattle.model.specs.Build.{newOf, planOf, raised};
+ghost use Rattle.build.specs.Plans.{laidOf};
 
 // The first `count` records of the files, from the table's start.
 pub fn lay(table: &mut [FileRecord], files: &[[u32; 3]], count: usize)

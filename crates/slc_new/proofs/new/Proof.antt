@@ -3,10 +3,10 @@ use mathlib.Core.Path.{_≡_}
 use contract.Running.{givenOf, tables, tablesOf}
 use denote.Triple.Spec.{tripleOf}
 use denote.Triple.Table.{entered, cited}
-use Rattle.model.specs.Build.{newOf}
+use Rattle.model.specs.Build.{newOf, planOf, raised}
 use Rattle.model.proofs.Built as B
 use Rattle.model.proofs.Built.Laws as B′
-use Rattle.build.specs.Plans.{planOf, laidOf, ended, finishOf, raised}
+use Rattle.build.specs.Plans.{laidOf, ended, finishOf}
 use Rattle.build.proofs.Raising.{new-is}
 use Rattle.build.proofs.judge.Symbol as judge-def
 use Rattle.build.proofs.judge.Symbol.{name as #build·judge}

@@ -3,8 +3,8 @@ use mathlib.Core.Path.{_≡_, refl, ap, _∙_}
 use contract.Running.{givenOf, tables, tablesOf}
 use denote.Triple.Spec.{tripleOf}
 use denote.Triple.Table.{entered, cited}
-use Rattle.model.specs.Build.{Raised, newOf}
-use Rattle.build.specs.Plans.{planOf, laidOf, Ended, finishOf, raised}
+use Rattle.model.specs.Build.{Raised, newOf, planOf, raised}
+use Rattle.build.specs.Plans.{laidOf, Ended, finishOf}
 use Rattle.build.proofs.Raising.{new-is}
 use Rattle.build.proofs.judge.Symbol as judge-def
 use Rattle.build.proofs.judge.Symbol.{name as #build·judge}
