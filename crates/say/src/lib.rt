@@ -7,7 +7,7 @@ pub use answers::error;
 pub use answers::ok_bytes;
 pub use answers::refused;
 ghost use mathlib.Core.Path.{_≡_};
-ghost use mathlib.Core.Bool.{false};
+ghost use mathlib.Core.Bool.{true, false};
 ghost use mathlib.Core.List.{[]};
 ghost use Prim.Native.Nat.{_+_, _<_, _≤_};
 ghost use lib.ListN.{length, take};
@@ -30,7 +30,7 @@ pub enum Told {
 
 // Nothing waits yet.
 pub fn start() -> Place
-    ensures { λ r. ⌜ r .at ≡ 0 ⌝ }
+    ensures { λ r. ⌜ (r .at ≡ 0) × (r .good ≡ true) ⌝ }
 {
     Place { at: 0, good: true }
 }

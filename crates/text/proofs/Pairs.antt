@@ -2,7 +2,7 @@
 use Prim.Native.Nat.{ℕ, zero, suc, _+_, _*_, _-_, _/_, _%_, _≤_, _<_}
 use mathlib.Core.Path.{_≡_, refl, ap, ap₂, sym, _∙_}
 use mathlib.Core.List.{List, [], _∷_}
-use mathlib.Core.Bool.{Bool, true, false, cond, _&&_}
+use mathlib.Core.Bool.{Bool, true, false, cond, _&&_, true≢false}
 use mathlib.Core.Option.{none, some}
 use native.Mathlib.Omega.{arith}
 use lib.Dec.{ltb, leb, eqb, leb·zero}
@@ -96,7 +96,7 @@ module _ (c : ℕ) where
 -- ---- nothing but digits
 pub both : (a b : Bool) → (a && b) ≡ true → (a ≡ true) × (b ≡ true)
 both true b e = (refl, e)
-both false b e = absurd (let z : _≡_ {A = Bool} true false = cc in let y : _≡_ {A = ℕ} 0 1 = ap (λ (t : Bool). cond t 0 1) z in omega arith)
+both false b e = absurd (true≢false (sym e))
 
 module _ (s : List ℕ) (i : ℕ) where
   digits-cons : i < length s → digits (drop i s) ≡ (ltb (nibble (getD s i 0)) 16 && digits (drop (i + 1) s))
@@ -211,6 +211,7 @@ module _ (s : List ℕ) where
           counts = refl;
           right = rw (text-bytes, e);
           kept = refl;
+          refused = λ _. (refl, refl);
         }
 
     pub unhex-done : {n : ℕ} (out out′ : List ℕ) → length s / 2 ≤ length out → Wrote out 0 (pairs s) n out′ → Unhexed s out (record { n = n; good = true }) out′
@@ -224,6 +225,7 @@ module _ (s : List ℕ) where
           counts = sym (ap length first ∙ omega (arith, w .end));
           right = rw (text-bytes, e) (ap some first);
           kept = ap₂ drop (w .end) (w .now) ∙ put-behind out 0 (pairs s) room ∙ ap (λ (k : ℕ). drop k out) (sym (w .end));
+          refused = λ z. absurd (true≢false z);
         }
 
 pub text-said : (s : List ℕ) (u : Bool) → u ≡ hexText s → u ≡ true → hexText s ≡ true
@@ -231,7 +233,7 @@ text-said s u e f = sym e ∙ f
 
 pub unhex-other : (s out : List ℕ) (t u : Bool) → u ≡ hexText s → u ≡ false → t ≡ same s (45 ∷ []) → Unhexed s out (record { n = 0; good = t }) out
 unfolding unhexed fitting
-unhex-other s out t u f h e = record { fits = omega arith; counts = refl; right = rw (← f, h, ← e) (go t); kept = refl }
+unhex-other s out t u f h e = record { fits = omega arith; counts = refl; right = rw (← f, h, ← e) (go t); kept = refl; refused = λ _. (refl, refl) }
   where
     go : (b : Bool) → bytesOf b [] ≡ fitting (length out) (cond b (some []) none)
     go true = rw (leb·zero (length out))

@@ -1,5 +1,5 @@
 -- Laws of the parts of a text.
-use Prim.Native.Nat.{ℕ, zero, suc, _+_, _-_, _≤_, _<_}
+use Prim.Native.Nat.{ℕ, zero, suc, _+_, _-_, _≤_, _<_, min}
 use mathlib.Core.Path.{_≡_, refl, ap, sym, _∙_}
 use mathlib.Core.List.{List, [], _∷_}
 use mathlib.Core.Bool.{Bool, true, false, cond}
@@ -133,5 +133,7 @@ module _ (by : ℕ) where
         omega arith
 
 -- ---- so many bytes are there
-pub counted : (n : ℕ) (s : List ℕ) → n ≤ length s → (n ≤ length s) × (n ≡ length (take n s))
-counted n s h = (h, sym (length-take-le n s h))
+pub counted : (n k : ℕ) (s : List ℕ) → k ≡ min n (length s) → (k ≤ length s) × (k ≡ length (take k s)) × (k ≡ min n (length s))
+counted n k s e =
+    let h : k ≤ length s = omega arith in
+    (h, sym (length-take-le k s h), e)

@@ -58,12 +58,14 @@ abbrev pub bytesOf : Bool → List ℕ → Option (List ℕ)
 bytesOf true bs = some bs
 bytesOf false bs = none
 
--- a byte string was read into a memory `out`, which left `out′`: its bytes are the first `n`, and nothing behind them changed
+-- a byte string was read into a memory `out`, which left `out′`: its bytes are the first `n`, and nothing behind them changed;
+-- where it could not be read, nothing changed at all
 pub record Unhexed (s out : List ℕ) (r : Bytes) (out′ : List ℕ) : Type 0 where
   pub fits : r .n ≤ length out′
   pub counts : r .n ≡ length (take (r .n) out′)
   pub right : bytesOf (r .good) (take (r .n) out′) ≡ fitting (length out) (unhexed s)
   pub kept : drop (r .n) out′ ≡ drop (r .n) out
+  pub refused : r .good ≡ false → (r .n ≡ 0) × (out′ ≡ out)
 
 -- the number that hexadecimal digits stand for, behind those that make n
 unfoldable pub hexValue : ℕ → List ℕ → ℕ

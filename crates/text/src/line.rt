@@ -1,7 +1,7 @@
 // Parts of a text: the fields of a line.
 ghost use mathlib.Core.Path.{_≡_};
 ghost use mathlib.Core.Bool.{cond};
-ghost use Prim.Native.Nat.{ℕ, suc, _+_, _≤_};
+ghost use Prim.Native.Nat.{ℕ, suc, _+_, _≤_, min};
 ghost use lib.Dec.{eqb};
 ghost use lib.ListN.{length, take, drop};
 ghost use Rattle.text.specs.Line.{cut, partAt, same};
@@ -98,9 +98,9 @@ pub fn is(a: &[u8], b: &[u8]) -> bool
     base::spells(a, b, false)
 }
 
-// A number of bytes that are there.
+// So many bytes, or all where there are fewer.
 pub fn within(n: usize, s: &[u8]) -> usize
-    ensures { λ r. ⌜ (r ≤ length (now (s .entry))) × (r ≡ length (take r (now (s .entry)))) ⌝ }
+    ensures { λ r. ⌜ (r ≤ length (now (s .entry))) × (r ≡ length (take r (now (s .entry)))) × (r ≡ min n (length (now (s .entry)))) ⌝ }
 {
     if n < s.len() {
         return n;
