@@ -1,4 +1,4 @@
-// `tag TAG`: `ok CODE file element position sub bit count keptlength`
+// `tag TAG`: `ok CODE file element position sub bit count keptlength`; `space` is for the bytes of TAG
 use address::Address;
 use address::Maybe;
 use address::Parsed;

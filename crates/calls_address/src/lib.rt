@@ -1,13 +1,9 @@
-// The calls of the line protocol on addresses (module 3), one file each.
+// The call of the line protocol on addresses (module 3).
 mod call_tag;
 
-use say::Place;
-use say::Told;
+pub use call_tag::answer;
 
-// Answers a line that begins with one of these calls; `space` is for the bytes of its fields.
-pub fn answer(call: &[u8], line: &[u8], space: &mut [u8], out: &mut [u8], p: Place) -> Told {
-    if text::is(call, b"tag") {
-        return Told::Answered(call_tag::answer(line, space, out, p));
-    }
-    Told::Unknown
+// Is this the word of the call?
+pub fn knows(call: &[u8]) -> bool {
+    text::is(call, b"tag")
 }

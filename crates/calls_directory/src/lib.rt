@@ -5,7 +5,11 @@ mod call_sys0;
 mod show;
 
 use say::Place;
-use say::Told;
+
+// Is this the word of one of these calls?
+pub fn knows(call: &[u8]) -> bool {
+    text::is(call, b"sys0") || text::is(call, b"dirsize") || text::is(call, b"dir")
+}
 
 // Answers a line that begins with one of these calls; `dir` has an output of at most `room` files. `space` and `more` are for the bytes of
 // its fields.
@@ -17,15 +21,12 @@ pub fn answer(
     more: &mut [u8],
     out: &mut [u8],
     p: Place,
-) -> Told {
+) -> Place {
     if text::is(call, b"sys0") {
-        return Told::Answered(call_sys0::answer(line, space, out, p));
+        return call_sys0::answer(line, space, out, p);
     }
     if text::is(call, b"dirsize") {
-        return Told::Answered(call_dirsize::answer(line, space, more, out, p));
+        return call_dirsize::answer(line, space, more, out, p);
     }
-    if text::is(call, b"dir") {
-        return Told::Answered(call_dir::answer(line, room, space, out, p));
-    }
-    Told::Unknown
+    call_dir::answer(line, room, space, out, p)
 }

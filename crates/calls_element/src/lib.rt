@@ -5,7 +5,11 @@ pub mod given;
 pub mod shown;
 
 use say::Place;
-use say::Told;
+
+// Is this the word of one of these calls?
+pub fn knows(call: &[u8]) -> bool {
+    text::is(call, b"enc") || text::is(call, b"dec")
+}
 
 // Answers a line that begins with one of these calls; a text that is read has an output of at most `room` bytes. `space` and `more` are for
 // the bytes of its fields.
@@ -17,12 +21,9 @@ pub fn answer(
     more: &mut [u8],
     out: &mut [u8],
     p: Place,
-) -> Told {
+) -> Place {
     if text::is(call, b"enc") {
-        return Told::Answered(call_enc::answer(line, space, more, out, p));
+        return call_enc::answer(line, space, more, out, p);
     }
-    if text::is(call, b"dec") {
-        return Told::Answered(call_dec::answer(line, room, space, more, out, p));
-    }
-    Told::Unknown
+    call_dec::answer(line, room, space, more, out, p)
 }

@@ -6,7 +6,14 @@ mod call_set;
 mod spot;
 
 use say::Place;
-use say::Told;
+
+// Is this the word of one of these calls?
+pub fn knows(call: &[u8]) -> bool {
+    text::is(call, b"cmd")
+        || text::is(call, b"get")
+        || text::is(call, b"set")
+        || text::is(call, b"directory")
+}
 
 // Answers a line that begins with one of these calls; a reply or a text that is read has an output of at most `room` bytes. `space` is for
 // the bytes of its fields.
@@ -18,18 +25,15 @@ pub fn answer(
     store: &mut [u8],
     out: &mut [u8],
     p: Place,
-) -> Told {
+) -> Place {
     if text::is(call, b"cmd") {
-        return Told::Answered(call_cmd::answer(line, room, space, store, out, p));
+        return call_cmd::answer(line, room, space, store, out, p);
     }
     if text::is(call, b"get") {
-        return Told::Answered(call_get::answer(line, room, space, store, out, p));
+        return call_get::answer(line, room, space, store, out, p);
     }
     if text::is(call, b"set") {
-        return Told::Answered(call_set::answer(line, space, store, out, p));
+        return call_set::answer(line, space, store, out, p);
     }
-    if text::is(call, b"directory") {
-        return Told::Answered(call_directory::answer(line, store, out, p));
-    }
-    Told::Unknown
+    call_directory::answer(line, store, out, p)
 }

@@ -3,11 +3,8 @@ use crate::show;
 use say::Place;
 use text::Byte;
 
-pub fn answer(line: &[u8], room: usize, out: &mut [u8], p: Place) -> Place {
-    if text::fields(line) != 2 {
-        return say::error(out, p, b"fields");
-    }
-    let Byte::Is(status) = text::code(text::field(line, 1)) else {
+pub fn answer(digits: &[u8], room: usize, out: &mut [u8], p: Place) -> Place {
+    let Byte::Is(status) = text::code(digits) else {
         return say::error(out, p, b"hex");
     };
     let mut text = [0u8; 128];

@@ -1,14 +1,18 @@
-// The calls of the line protocol on replies (module 4), one file each.
+// The calls of the line protocol on replies (module 4), one file each. Each has one field behind its name.
 mod call_datalogparse;
 mod call_errtext;
 mod call_status;
 mod show;
 
 use say::Place;
-use say::Told;
+
+// Is this the word of one of these calls?
+pub fn knows(call: &[u8]) -> bool {
+    text::is(call, b"status") || text::is(call, b"errtext") || text::is(call, b"datalogparse")
+}
 
 // Answers a line that begins with one of these calls; a status text is written to an output of at most `room` bytes. `space` is for the
-// bytes of its fields.
+// bytes of its field.
 pub fn answer(
     call: &[u8],
     line: &[u8],
@@ -16,15 +20,20 @@ pub fn answer(
     space: &mut [u8],
     out: &mut [u8],
     p: Place,
-) -> Told {
-    if text::is(call, b"status") {
-        return Told::Answered(call_status::answer(line, room, space, out, p));
+) -> Place {
+    if text::fields(line) != 2 {
+        return say::error(out, p, b"fields");
     }
     if text::is(call, b"errtext") {
-        return Told::Answered(call_errtext::answer(line, room, out, p));
+        return call_errtext::answer(text::field(line, 1), room, out, p);
     }
-    if text::is(call, b"datalogparse") {
-        return Told::Answered(call_datalogparse::answer(line, space, out, p));
+    let got = text::unhex(text::field(line, 1), space);
+    let n = got.n;
+    if !got.good {
+        return say::error(out, p, b"hex");
     }
-    Told::Unknown
+    if text::is(call, b"status") {
+        return call_status::answer(&space[..n], room, out, p);
+    }
+    call_datalogparse::answer(&space[..n], out, p)
 }

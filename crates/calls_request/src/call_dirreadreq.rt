@@ -3,11 +3,10 @@ use crate::fields;
 use crate::fields::Word;
 use crate::told;
 use decimal::Decimal;
-use frame::Requestor;
 use say::Place;
 use text::Byte;
 
-pub fn answer(line: &[u8], room: usize, out: &mut [u8], p: Place) -> Place {
+pub fn answer(line: &[u8], message: &mut [u8], out: &mut [u8], p: Place) -> Place {
     if text::fields(line) != 6 {
         return say::error(out, p, b"fields");
     }
@@ -25,7 +24,7 @@ pub fn answer(line: &[u8], room: usize, out: &mut [u8], p: Place) -> Place {
         file_type,
         offset as usize,
         (size % 256) as u8,
-        room,
+        message,
         out,
         p,
     )
@@ -36,7 +35,7 @@ fn asked(
     file_type: u8,
     offset: usize,
     size: u8,
-    room: usize,
+    message: &mut [u8],
     out: &mut [u8],
     p: Place,
 ) -> Place {
@@ -47,39 +46,6 @@ fn asked(
     let Word::Is(sequence) = fields::sequence(text::field(line, 5)) else {
         return say::error(out, p, b"number");
     };
-    let mut memory = [0u8; 300];
-    built(
-        file_type,
-        offset,
-        size,
-        who.q,
-        sequence,
-        room,
-        &mut memory,
-        out,
-        p,
-    )
-}
-
-fn built(
-    file_type: u8,
-    offset: usize,
-    size: u8,
-    q: Requestor,
-    sequence: u16,
-    room: usize,
-    memory: &mut [u8],
-    out: &mut [u8],
-    p: Place,
-) -> Place {
-    let n = text::within(room, memory);
-    let answer = frame::file_directory_read_request(
-        file_type,
-        offset,
-        size,
-        q,
-        sequence,
-        &mut memory[..n],
-    );
-    told::message(answer, memory, out, p)
+    let r = frame::file_directory_read_request(file_type, offset, size, who.q, sequence, message);
+    told::message(r, message, out, p)
 }

@@ -3,7 +3,6 @@ use crate::fields;
 use crate::fields::Word;
 use crate::told;
 use frame::Requestor;
-use request::Request;
 use request::Value;
 use say::Place;
 
@@ -28,9 +27,9 @@ fn kind_of(s: &[u8]) -> Kind {
 
 pub fn answer(
     line: &[u8],
-    room: usize,
     space: &mut [u8],
     more: &mut [u8],
+    message: &mut [u8],
     out: &mut [u8],
     p: Place,
 ) -> Place {
@@ -44,23 +43,23 @@ pub fn answer(
     if text::fields(line) != 6 {
         return say::error(out, p, b"fields");
     }
-    asked(line, room, kind, space, more, out, p)
-}
-
-fn asked(
-    line: &[u8],
-    room: usize,
-    kind: Kind,
-    space: &mut [u8],
-    more: &mut [u8],
-    out: &mut [u8],
-    p: Place,
-) -> Place {
     let got = text::unhex(text::field(line, 1), space);
     let n = got.n;
     if !got.good {
         return say::error(out, p, b"hex");
     }
+    asked(line, kind, &space[..n], more, message, out, p)
+}
+
+fn asked(
+    line: &[u8],
+    kind: Kind,
+    tag: &[u8],
+    more: &mut [u8],
+    message: &mut [u8],
+    out: &mut [u8],
+    p: Place,
+) -> Place {
     let who = fields::requestor(text::field(line, 2));
     if !who.good {
         return say::error(out, p, b"hex");
@@ -69,13 +68,13 @@ fn asked(
         return say::error(out, p, b"number");
     };
     given(
-        &space[..n],
+        tag,
         who.q,
         sequence,
         kind,
         text::field(line, 5),
-        room,
         more,
+        message,
         out,
         p,
     )
@@ -87,22 +86,22 @@ fn given(
     sequence: u16,
     kind: Kind,
     value: &[u8],
-    room: usize,
     more: &mut [u8],
+    message: &mut [u8],
     out: &mut [u8],
     p: Place,
 ) -> Place {
     match kind {
         Kind::Unknown => say::error(out, p, b"kind"),
-        Kind::Bool => flag(tag, q, sequence, value, room, out, p),
+        Kind::Bool => flag(tag, q, sequence, value, message, out, p),
         Kind::Bytes(v) => {
             let got = text::unhex(value, more);
             let n = got.n;
             if !got.good {
                 return say::error(out, p, b"hex");
             }
-            let mut memory = [0u8; 300];
-            built(tag, v, &more[..n], q, sequence, room, &mut memory, out, p)
+            let r = request::write_request(tag, v, &more[..n], q, sequence, message);
+            told::request(r, message, out, p)
         }
     }
 }
@@ -112,7 +111,7 @@ fn flag(
     q: Requestor,
     sequence: u16,
     value: &[u8],
-    room: usize,
+    message: &mut [u8],
     out: &mut [u8],
     p: Place,
 ) -> Place {
@@ -122,34 +121,6 @@ fn flag(
     if 1 < n {
         return say::error(out, p, b"number");
     }
-    let mut memory = [0u8; 300];
-    built(
-        tag,
-        Value::Bool(n == 1),
-        b"",
-        q,
-        sequence,
-        room,
-        &mut memory,
-        out,
-        p,
-    )
-}
-
-fn built(
-    tag: &[u8],
-    v: Value,
-    bytes: &[u8],
-    q: Requestor,
-    sequence: u16,
-    room: usize,
-    memory: &mut [u8],
-    out: &mut [u8],
-    p: Place,
-) -> Place {
-    let n = text::within(room, memory);
-    match request::write_request(tag, v, bytes, q, sequence, &mut memory[..n]) {
-        Request::Refused(k) => say::refused(out, p, k),
-        Request::Built(a, m) => told::bytes(m, memory, out, p),
-    }
+    let r = request::write_request(tag, Value::Bool(n == 1), b"", q, sequence, message);
+    told::request(r, message, out, p)
 }

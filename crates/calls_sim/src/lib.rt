@@ -7,16 +7,14 @@ mod call_sim;
 mod call_spoil;
 
 use say::Place;
-use say::Told;
 
-fn shown(call: &[u8], line: &[u8], store: &[u8], out: &mut [u8], p: Place) -> Told {
-    if text::is(call, b"dump") {
-        return Told::Answered(call_dump::answer(line, store, out, p));
-    }
-    if text::is(call, b"hash") {
-        return Told::Answered(call_hash::answer(line, store, out, p));
-    }
-    Told::Unknown
+// Is this the word of one of these calls?
+pub fn knows(call: &[u8]) -> bool {
+    text::is(call, b"sim")
+        || text::is(call, b"fill")
+        || text::is(call, b"spoil")
+        || text::is(call, b"dump")
+        || text::is(call, b"hash")
 }
 
 // Answers a line that begins with one of these calls. `space` is for the bytes of its fields.
@@ -27,15 +25,18 @@ pub fn answer(
     store: &mut [u8],
     out: &mut [u8],
     p: Place,
-) -> Told {
+) -> Place {
     if text::is(call, b"sim") {
-        return Told::Answered(call_sim::answer(line, space, store, out, p));
+        return call_sim::answer(line, space, store, out, p);
     }
     if text::is(call, b"fill") {
-        return Told::Answered(call_fill::answer(line, space, store, out, p));
+        return call_fill::answer(line, space, store, out, p);
     }
     if text::is(call, b"spoil") {
-        return Told::Answered(call_spoil::answer(line, store, out, p));
+        return call_spoil::answer(line, store, out, p);
     }
-    shown(call, line, store, out, p)
+    if text::is(call, b"dump") {
+        return call_dump::answer(line, store, out, p);
+    }
+    call_hash::answer(line, store, out, p)
 }

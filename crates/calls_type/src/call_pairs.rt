@@ -1,16 +1,7 @@
 // `pairs BYTES`: the simulator's `swap_pairs`
 use say::Place;
 
-pub fn answer(line: &[u8], space: &mut [u8], out: &mut [u8], p: Place) -> Place {
-    if text::fields(line) != 2 {
-        return say::error(out, p, b"fields");
-    }
-    let got = text::unhex(text::field(line, 1), space);
-    let n = got.n;
-    if !got.good {
-        return say::error(out, p, b"hex");
-    }
-    swap::swap_pairs(&mut space[..n]);
-    let k = text::within(n, space);
-    say::ok_bytes(out, p, &space[..k])
+pub fn answer(given: &mut [u8], out: &mut [u8], p: Place) -> Place {
+    swap::swap_pairs(given);
+    say::ok_bytes(out, p, given)
 }

@@ -1,4 +1,4 @@
-// The calls of the line protocol on file types and texts (modules 1 and 2), one file each.
+// The calls of the line protocol on file types and texts (modules 1 and 2), one file each. Each has one field behind its name.
 mod call_ascii;
 mod call_ft;
 mod call_ftname;
@@ -9,45 +9,26 @@ mod call_swap;
 mod show;
 
 use say::Place;
-use say::Told;
+use text::Byte;
 
-fn types(call: &[u8], line: &[u8], space: &mut [u8], out: &mut [u8], p: Place) -> Told {
-    if text::is(call, b"ft") {
-        return Told::Answered(call_ft::answer(line, out, p));
-    }
-    if text::is(call, b"ftname") {
-        return Told::Answered(call_ftname::answer(line, space, out, p));
-    }
-    if text::is(call, b"simft") {
-        return Told::Answered(call_simft::answer(line, out, p));
-    }
-    Told::Unknown
+// Is this the word of one of these calls?
+pub fn knows(call: &[u8]) -> bool {
+    of_code(call) || of_bytes(call)
 }
 
-fn texts(
-    call: &[u8],
-    line: &[u8],
-    space: &mut [u8],
-    more: &mut [u8],
-    out: &mut [u8],
-    p: Place,
-) -> Told {
-    if text::is(call, b"swap") {
-        return Told::Answered(call_swap::answer(line, space, more, out, p));
-    }
-    if text::is(call, b"pairs") {
-        return Told::Answered(call_pairs::answer(line, space, out, p));
-    }
-    if text::is(call, b"ascii") {
-        return Told::Answered(call_ascii::answer(line, space, out, p));
-    }
-    if text::is(call, b"string") {
-        return Told::Answered(call_string::answer(line, space, out, p));
-    }
-    Told::Unknown
+fn of_code(call: &[u8]) -> bool {
+    text::is(call, b"ft") || text::is(call, b"simft")
 }
 
-// Answers a line that begins with one of these calls; `space` and `more` are for the bytes of its fields.
+fn of_bytes(call: &[u8]) -> bool {
+    text::is(call, b"ftname")
+        || text::is(call, b"swap")
+        || text::is(call, b"pairs")
+        || text::is(call, b"ascii")
+        || text::is(call, b"string")
+}
+
+// Answers a line that begins with one of these calls; `space` and `more` are for the bytes of its field.
 pub fn answer(
     call: &[u8],
     line: &[u8],
@@ -55,9 +36,43 @@ pub fn answer(
     more: &mut [u8],
     out: &mut [u8],
     p: Place,
-) -> Told {
-    if let Told::Answered(q) = types(call, line, space, out, p) {
-        return Told::Answered(q);
+) -> Place {
+    if text::fields(line) != 2 {
+        return say::error(out, p, b"fields");
     }
-    texts(call, line, space, more, out, p)
+    if of_code(call) {
+        return code(call, text::field(line, 1), out, p);
+    }
+    let got = text::unhex(text::field(line, 1), space);
+    let n = got.n;
+    if !got.good {
+        return say::error(out, p, b"hex");
+    }
+    bytes(call, &mut space[..n], more, out, p)
+}
+
+fn code(call: &[u8], digits: &[u8], out: &mut [u8], p: Place) -> Place {
+    let Byte::Is(code) = text::code(digits) else {
+        return say::error(out, p, b"hex");
+    };
+    if text::is(call, b"ft") {
+        return call_ft::answer(code, out, p);
+    }
+    call_simft::answer(code, out, p)
+}
+
+fn bytes(call: &[u8], given: &mut [u8], more: &mut [u8], out: &mut [u8], p: Place) -> Place {
+    if text::is(call, b"ftname") {
+        return call_ftname::answer(given, out, p);
+    }
+    if text::is(call, b"swap") {
+        return call_swap::answer(given, more, out, p);
+    }
+    if text::is(call, b"pairs") {
+        return call_pairs::answer(given, out, p);
+    }
+    if text::is(call, b"ascii") {
+        return call_ascii::answer(given, out, p);
+    }
+    call_string::answer(given, out, p)
 }

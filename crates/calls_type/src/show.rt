@@ -1,5 +1,6 @@
 // Names and types, as several calls show them.
 use file_type::FileType;
+use file_type::Known;
 use file_type::Name;
 use say::Place;
 
@@ -23,4 +24,12 @@ pub fn ok_file_type(t: FileType, out: &mut [u8], p: Place) -> Place {
     let a = say::plain(out, p, b"ok ");
     let b = file_type(t, out, a);
     say::plain(out, b, b"\n")
+}
+
+// `ok` NAME size CODE, or `ok none`
+pub fn ok_known(k: Known, out: &mut [u8], p: Place) -> Place {
+    match k {
+        Known::Is(t) => ok_file_type(t, out, p),
+        Known::Unknown => say::plain(out, p, b"ok none\n"),
+    }
 }

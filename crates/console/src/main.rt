@@ -4,109 +4,9 @@ ghost use lib.ListN.{length};
 use decimal::Decimal;
 use libc::STDIN_FILENO;
 use say::Place;
-use say::Told;
 
 // Of the second memory for bytes of fields so many are for them; behind them stands the simulated processor.
 const SCRATCH: usize = 131072;
-
-// The crates of calls are asked in turn, two in a function: three are more than the prover takes.
-fn types(
-    call: &[u8],
-    line: &[u8],
-    space: &mut [u8],
-    more: &mut [u8],
-    out: &mut [u8],
-    p: Place,
-) -> Told {
-    if let Told::Answered(q) = calls_address::answer(call, line, space, out, p) {
-        return Told::Answered(q);
-    }
-    calls_type::answer(call, line, space, more, out, p)
-}
-
-fn elements(
-    call: &[u8],
-    line: &[u8],
-    room: usize,
-    space: &mut [u8],
-    more: &mut [u8],
-    out: &mut [u8],
-    p: Place,
-) -> Told {
-    if let Told::Answered(q) = types(call, line, space, more, out, p) {
-        return Told::Answered(q);
-    }
-    calls_element::answer(call, line, room, space, more, out, p)
-}
-
-fn messages(
-    call: &[u8],
-    line: &[u8],
-    room: usize,
-    space: &mut [u8],
-    more: &mut [u8],
-    out: &mut [u8],
-    p: Place,
-) -> Told {
-    if let Told::Answered(q) = calls_request::answer(call, line, room, space, more, out, p) {
-        return Told::Answered(q);
-    }
-    calls_reply::answer(call, line, room, space, out, p)
-}
-
-fn known(
-    call: &[u8],
-    line: &[u8],
-    room: usize,
-    space: &mut [u8],
-    more: &mut [u8],
-    out: &mut [u8],
-    p: Place,
-) -> Told {
-    if let Told::Answered(q) = elements(call, line, room, space, more, out, p) {
-        return Told::Answered(q);
-    }
-    messages(call, line, room, space, more, out, p)
-}
-
-fn processors(
-    call: &[u8],
-    line: &[u8],
-    room: usize,
-    space: &mut [u8],
-    more: &mut [u8],
-    out: &mut [u8],
-    p: Place,
-) -> Told {
-    let m = text::within(SCRATCH, more);
-    if let Told::Answered(q) = calls_directory::answer(
-        call,
-        line,
-        room,
-        space,
-        &mut more[..m],
-        out,
-        p,
-    ) {
-        return Told::Answered(q);
-    }
-    simulated(call, line, room, space, &mut more[m..], out, p)
-}
-
-fn simulated(
-    call: &[u8],
-    line: &[u8],
-    room: usize,
-    space: &mut [u8],
-    store: &mut [u8],
-    out: &mut [u8],
-    p: Place,
-) -> Told {
-    if let Told::Answered(q) = calls_sim::answer(call, line, space, store, out, p) {
-        return Told::Answered(q);
-    }
-    calls_processor::answer(call, line, room, space, store, out, p)
-}
 
 // The answer to a line of a call, which has an output of at most `room` bytes or rows, where it has one.
 fn call(
@@ -119,11 +19,42 @@ fn call(
 ) -> Place {
     let word = text::field(line, 0);
     let m = text::within(SCRATCH, more);
-    if let Told::Answered(q) = known(word, line, room, space, &mut more[..m], out, p) {
-        return q;
+    if calls_sim::knows(word) {
+        return calls_sim::answer(word, line, space, &mut more[m..], out, p);
     }
-    if let Told::Answered(q) = processors(word, line, room, space, more, out, p) {
-        return q;
+    if calls_processor::knows(word) {
+        return calls_processor::answer(word, line, room, space, &mut more[m..], out, p);
+    }
+    other(word, line, room, space, &mut more[..m], out, p)
+}
+
+// A call that asks no processor.
+fn other(
+    word: &[u8],
+    line: &[u8],
+    room: usize,
+    space: &mut [u8],
+    more: &mut [u8],
+    out: &mut [u8],
+    p: Place,
+) -> Place {
+    if calls_address::knows(word) {
+        return calls_address::answer(line, space, out, p);
+    }
+    if calls_type::knows(word) {
+        return calls_type::answer(word, line, space, more, out, p);
+    }
+    if calls_element::knows(word) {
+        return calls_element::answer(word, line, room, space, more, out, p);
+    }
+    if calls_request::knows(word) {
+        return calls_request::answer(word, line, room, space, more, out, p);
+    }
+    if calls_reply::knows(word) {
+        return calls_reply::answer(word, line, room, space, out, p);
+    }
+    if calls_directory::knows(word) {
+        return calls_directory::answer(word, line, room, space, more, out, p);
     }
     say::error(out, p, b"call")
 }

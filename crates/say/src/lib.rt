@@ -22,12 +22,6 @@ pub struct Place {
     pub good: bool,
 }
 
-// Whether a line was one of some calls, and was answered.
-pub enum Told {
-    Answered(Place),
-    Unknown,
-}
-
 // Nothing waits yet.
 pub fn start() -> Place
     ensures { λ r. ⌜ (r .at ≡ 0) × (r .good ≡ true) ⌝ }
