@@ -7,10 +7,10 @@ use Rattle.element.proofs.Setting as S
 use Rattle.element.proofs.Setting.Laws as S′
 use Rattle.element.proofs.Spot as P
 use Rattle.element.proofs.Spot.Laws as P′
-use Rattle.encode.proofs.Value as A
-use Rattle.encode.proofs.Value.Laws as A′
-use Rattle.encode.proofs.Stored as O
-use Rattle.encode.proofs.Stored.Laws as O′
+use Rattle.values.proofs.Value as A
+use Rattle.values.proofs.Value.Laws as A′
+use Rattle.values.proofs.Stored as O
+use Rattle.values.proofs.Stored.Laws as O′
 use mir.Syntax.{w64, tyInt, tcons, tnil}
 use mir.Val.{vint, vcons, vnil}
 use Rattle.file_type.proofs.FileType as F

@@ -2,12 +2,12 @@
 use decode::Element;
 use element::Setting;
 use element::Spot;
-use encode::Stored;
 use model::FileRecord;
 use model::Slc;
+use values::Stored;
 ghost use lib.ListN.{length};
 ghost use Rattle.decode.specs.Decode.{Reads};
-ghost use Rattle.encode.specs.Encode.{Stores};
+ghost use Rattle.values.specs.Encode.{Stores};
 ghost use Rattle.model.specs.Elements.{readOf, setOf};
 ghost use Rattle.model.specs.Plain.{stateOf};
 

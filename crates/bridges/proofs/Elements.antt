@@ -6,8 +6,8 @@ use lib.ListN.{length}
 use Rattle.base.specs.Outcome.{Outcome}
 use Rattle.decode.specs.declared.Element.{Element}
 use Rattle.decode.specs.Decode.{Says, Reads}
-use Rattle.encode.specs.declared.Stored.{Stored}
-use Rattle.encode.specs.Encode.{Stores}
+use Rattle.values.specs.declared.Stored.{Stored}
+use Rattle.values.specs.Encode.{Stores}
 use Rattle.model.specs.declared.FileRecord.{FileRecord}
 use Rattle.model.specs.declared.Slc.{Slc}
 use Rattle.model.specs.Elements.{readOf, setOf}

@@ -5,7 +5,7 @@ use mathlib.Core.List.{List}
 use native.Mathlib.Numerals.{add-one}
 use native.Mathlib.Omega.{arith}
 use lib.ListN.{length, getD, set, take, drop, replicate, length-set, length-replicate}
-use Rattle.build.specs.Plans.{recordOf, stored, laidOf}
+use Rattle.build_plan.specs.Plans.{recordOf, stored, laidOf}
 use Rattle.model.specs.declared.FileRecord.{FileRecord}
 use Rattle.table.specs.declared.Pass.{Pass}
 use Rattle.table.specs.declared.Seen.{Seen}

@@ -1,22 +1,22 @@
 // The processor's calls for programs. Covered code can't lend a table of records, so here it is an array by value: `processor::pccc_on` answers
 // a command, and these build a processor and reach its elements.
-use build::Judged;
+use build_plan::Judged;
 use decode::Element;
 use element::Setting;
 use element::Spot;
-use encode::Stored;
 use model::Built;
 use model::FileRecord;
 use model::Slc;
 use table::Seen;
+use values::Stored;
 ghost use mathlib.Core.Path.{_≡_};
 ghost use lib.ListN.{length, replicate};
 ghost use Rattle.decode.specs.Decode.{Reads};
-ghost use Rattle.encode.specs.Encode.{Stores};
+ghost use Rattle.values.specs.Encode.{Stores};
 ghost use Rattle.model.specs.Build.{newOf, planOf, raised};
 ghost use Rattle.model.specs.Elements.{readOf, setOf};
 ghost use Rattle.model.specs.Plain.{stateOf};
-ghost use Rattle.build.specs.Plans.{laidOf};
+ghost use Rattle.build_plan.specs.Plans.{laidOf};
 ghost use Rattle.table.specs.Survey.{noRecord, surveyOf};
 
 // A processor that was built, and its file records.
@@ -55,7 +55,7 @@ pub fn new_on(
 {
     let j = build::judge(files, text, log, count, 256, memory.len());
     let rows = laid(files, j.records);
-    let built = build::finish(j, text, count, memory);
+    let built = build_end::finish(j, text, count, memory);
     Raised { rows, built }
 }
 

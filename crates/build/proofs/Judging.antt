@@ -5,7 +5,7 @@ use mathlib.Core.Bool.{Bool, true, false, not, _&&_, cond}
 use mathlib.Core.List.{List, [], _∷_, map}
 use mathlib.Core.Option.{Option, none, some}
 use native.Mathlib.Omega.{arith}
-use borrow.Author.Tests.{leb-true, le-leb, lt-leb, not-true, not-false}
+use borrow.Author.Tests.{leb-true, not-true, not-false}
 use lib.Dec.{leb}
 use lib.ListN.{length, take, drop, getD, replicate}
 use lib.Seq.{take-at, take-all}
@@ -14,23 +14,9 @@ use Rattle.model.specs.declared.FileRecord.{FileRecord}
 use Rattle.model.specs.Build.{Wanted, wantedOf, defaults, orDefaults, has, fileRefusal, recordsOf, planned, fits, logFits, orThen, buildRefusal, planOf}
 use Rattle.model.specs.Plain.{entries, holds}
 use Rattle.model.specs.State.{knownCode, total, goodText, goodLog}
-use Rattle.build.specs.declared.Judged.{Judged}
-use Rattle.build.specs.Numbers.{refusalNumber, filesRefused}
-use Rattle.build.specs.Plans.{refusedWith, judged, judgedOf, roomFor, listJudged, noRecord, narrowed, recordOf}
-
--- ---- 14
-module _ (records bytes t m : ℕ) where
-  pub room-large : 65535 < bytes → false ≡ roomFor records bytes t m
-  unfolding roomFor
-  room-large h = rw (lt-leb bytes 65535 h)
-
-  pub room-table : bytes ≤ 65535 → t < records → false ≡ roomFor records bytes t m
-  unfolding roomFor
-  room-table h l = rw (le-leb bytes 65535 h, lt-leb records t l)
-
-  pub room-memory : bytes ≤ 65535 → records ≤ t → leb bytes m ≡ roomFor records bytes t m
-  unfolding roomFor
-  room-memory h l = rw (le-leb bytes 65535 h, le-leb records t l)
+use Rattle.build_plan.specs.declared.Judged.{Judged}
+use Rattle.build_files.specs.Numbers.{refusalNumber, filesRefused}
+use Rattle.build_plan.specs.Plans.{refusedWith, judged, judgedOf, roomFor, listJudged, noRecord, narrowed, recordOf}
 
 -- ---- 13, of the text in its array
 text-back : (text : List ℕ) → length text ≤ 11 → take (length text) (fitted 11 0 text) ≡ text

@@ -1,27 +1,10 @@
 // Building a processor, `Slc::new`, in three parts: `judge` puts the questions, the records are laid in the lent table, each made by
-// `record_of`, and `finish` clears the data and gives the processor.
-mod files;
-
+// `record_of`, and `build_end::finish` clears the data and gives the processor.
 ghost use mathlib.Core.Path.{_≡_};
-ghost use Prim.Native.Nat.{min};
-ghost use lib.ListN.{length, replicate};
-ghost use Rattle.base.specs.Put.{put};
-ghost use Rattle.model.specs.Build.{noSlc, planOf};
-ghost use Rattle.swap.specs.Text.{fitted};
-ghost use Rattle.build.specs.Plans.{refusedWith, roomFor, listJudged, judgedOf, recordOf, slcWith, ended, finishOf};
-use files::Sums;
-use model::Built;
+ghost use Rattle.model.specs.Build.{planOf};
+ghost use Rattle.build_plan.specs.Plans.{listJudged, judgedOf, recordOf};
+use build_plan::Judged;
 use model::FileRecord;
-use model::Made;
-use model::Slc;
-
-// How a list of files was judged: the number of the question that was answered with no; or 0, and how many records and
-// bytes the files have.
-pub struct Judged {
-    pub refused: u8,
-    pub records: usize,
-    pub total: usize,
-}
 
 // The files of an empty list, O to F: number, type code, elements.
 const DEFAULTS: [[u32; 3]; 9] = [
@@ -36,29 +19,6 @@ const DEFAULTS: [[u32; 3]; 9] = [
     [8, 0x8A, 50],
 ];
 
-fn refuse(n: u8) -> Judged
-    ensures { λ r. ⌜ r ≡ refusedWith n ⌝ }
-{
-    Judged {
-        refused: n,
-        records: 0,
-        total: 0,
-    }
-}
-
-// 14: a total of at most 65,535, and the lent memories hold everything.
-fn room_for(s: Sums, table_length: usize, memory_length: usize) -> bool
-    ensures { λ r. ⌜ r ≡ roomFor (s .records) (s .total) «table_length» «memory_length» ⌝ }
-{
-    if 65535 < s.total {
-        return false;
-    }
-    if table_length < s.records {
-        return false;
-    }
-    s.total <= memory_length
-}
-
 // 11 and 12 for each file in turn, then 13, 14, 15.
 fn judge_list(
     files: &[[u32; 3]],
@@ -70,19 +30,19 @@ fn judge_list(
 ) -> Judged
     ensures { λ r. ⌜ r ≡ listJudged (now (files .entry)) (now (text .entry)) (now (log .entry)) count «table_length» «memory_length» ⌝ }
 {
-    let n = files::refused(files);
+    let n = build_files::refused(files);
     if n != 0 {
-        return refuse(n);
+        return build_plan::refuse(n);
     }
-    if !soundness::good_text(type_text(text), text.len()) {
-        return refuse(13);
+    if !soundness::good_text(build_end::type_text(text), text.len()) {
+        return build_plan::refuse(13);
     }
-    let s = files::summed(files);
-    if !room_for(s, table_length, memory_length) {
-        return refuse(14);
+    let s = build_files::summed(files);
+    if !build_plan::room_for(s, table_length, memory_length) {
+        return build_plan::refuse(14);
     }
     if !soundness::good_log(log, 0, count) {
-        return refuse(15);
+        return build_plan::refuse(15);
     }
     Judged {
         refused: 0,
@@ -114,68 +74,7 @@ pub fn record_of(files: &[[u32; 3]], i: usize) -> FileRecord
     ensures { λ r. ⌜ r ≡ recordOf (now (files .entry)) i ⌝ }
 {
     if files.len() == 0 {
-        return files::record_in(&DEFAULTS, i);
+        return build_files::record_in(&DEFAULTS, i);
     }
-    files::record_in(files, i)
-}
-
-fn clear(memory: &mut [u8], total: usize)
-    ensures { λ _. ⌜ now (memory .exit) ≡ put (now (memory .entry)) 0 (replicate (min total (length (now (memory .entry)))) 0) ⌝ }
-{
-    let n = base::least(total, memory.len());
-    let mut i = 0;
-    while i < n {
-        memory[i] = 0;
-        i += 1;
-    }
-}
-
-fn type_text(text: &[u8]) -> [u8; 11]
-    ensures { λ r. ⌜ r ≡ fitted 11 0 (now (text .entry)) ⌝ }
-{
-    let mut bytes = [0u8; 11];
-    let n = base::least(11, text.len());
-    base::put_all(&mut bytes, 0, &text[..n]);
-    bytes
-}
-
-fn slc_with(files: usize, text: &[u8], count: usize) -> Slc
-    ensures { λ r. ⌜ r ≡ slcWith files (now (text .entry)) count ⌝ }
-{
-    Slc {
-        files,
-        type_text: type_text(text),
-        type_len: text.len(),
-        log_at: 0,
-        log_left: count,
-    }
-}
-
-fn no_slc() -> Slc
-    ensures { λ r. ⌜ r ≡ noSlc ⌝ }
-{
-    Slc {
-        files: 0,
-        type_text: [0u8; 11],
-        type_len: 0,
-        log_at: 0,
-        log_left: 0,
-    }
-}
-
-// The processor, with its data cleared; or the refusal, which changes nothing.
-pub fn finish(j: Judged, text: &[u8], count: usize, memory: &mut [u8]) -> Built
-    ensures { λ r. ⌜ ended r (now (memory .exit)) ≡ finishOf j (now (text .entry)) count (now (memory .entry)) ⌝ }
-{
-    if j.refused != 0 {
-        return Built {
-            slc: no_slc(),
-            made: Made::Refused(j.refused),
-        };
-    }
-    clear(memory, j.total);
-    Built {
-        slc: slc_with(j.records, text, count),
-        made: Made::Ready,
-    }
+    build_files::record_in(files, i)
 }

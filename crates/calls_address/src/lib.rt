@@ -1,9 +1,46 @@
-// The call of the line protocol on addresses (module 3).
-mod call_tag;
+// The call of the line protocol on addresses (module 3). `space` is for the bytes of fields, `memory` for the answer.
+use address::Address;
+use address::Maybe;
+use address::Parsed;
+use protocol::Told;
 
-pub use call_tag::answer;
+// `tag TAG`
+pub fn answer(call: &[u8], line: &[u8], space: &mut [u8], memory: &mut [u8]) -> Told {
+    if !text::is(call, b"tag") {
+        return Told::Error(protocol::CALL);
+    }
+    let a = protocol::read(line, b"x", space);
+    if a.why != 0 {
+        return Told::Error(a.why);
+    }
+    match address::parse_tag(protocol::part(space, a, 0)) {
+        Parsed::Refused(k) => Told::Refused(k),
+        Parsed::Is(a) => Told::Text(shown(a, memory)),
+    }
+}
 
-// Is this the word of the call?
-pub fn knows(call: &[u8]) -> bool {
-    text::is(call, b"tag")
+// CODE file element position sub bit count keptlength
+fn shown(a: Address, memory: &mut [u8]) -> usize {
+    let t = a.file_type;
+    let b = protocol::put_code(memory, 0, b' ', t.code());
+    let c = protocol::put_number(memory, b, b' ', a.file_number as u64);
+    let d = protocol::put_number(memory, c, b' ', a.element_number as u64);
+    let position = a.pos_number;
+    let sub = a.sub_element;
+    let e = maybe(position, memory, d);
+    let f = maybe(sub, memory, e);
+    counts(a.bit, a.element_count, a.kept, memory, f)
+}
+
+fn counts(bit: bool, count: u64, kept: usize, memory: &mut [u8], at: usize) -> usize {
+    let a = protocol::put_number(memory, at, b' ', bit as u64);
+    let b = protocol::put_number(memory, a, b' ', count);
+    protocol::put_number(memory, b, b' ', kept as u64)
+}
+
+fn maybe(m: Maybe, memory: &mut [u8], at: usize) -> usize {
+    match m {
+        Maybe::Missing => base::put_all(memory, at, b" -"),
+        Maybe::Is(n) => protocol::put_number(memory, at, b' ', n as u64),
+    }
 }

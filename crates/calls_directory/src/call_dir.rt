@@ -1,69 +1,40 @@
-// `dir FIRSTROW ROWSIZE DATA`: `ok n CODE:number:elements:length ..`
+// `dir FIRSTROW ROWSIZE DATA`: `ok n CODE:number:elements:length ..`, said row by row
 ghost use mathlib.Core.Path.{_≡_};
 ghost use Prim.Native.Nat.{_≤_};
 ghost use lib.ListN.{length, take};
-use crate::show;
-use decimal::Decimal;
 use directory::Listed;
+use protocol::Args;
+use protocol::Told;
 use say::Place;
 
-pub fn answer(line: &[u8], room: usize, space: &mut [u8], out: &mut [u8], p: Place) -> Place {
-    if text::fields(line) != 4 {
-        return say::error(out, p, b"fields");
+// The output has at most `room` files.
+pub fn say_dir(line: &[u8], room: usize, space: &mut [u8], out: &mut [u8], p: Place) -> Place {
+    let a = protocol::read(line, b"nnx", space);
+    if a.why != 0 {
+        return protocol::say_told(Told::Error(a.why), b"", out, p);
     }
-    let Decimal::Is(first) = decimal::number(text::field(line, 1)) else {
-        return say::error(out, p, b"number");
-    };
-    let Decimal::Is(size) = decimal::number(text::field(line, 2)) else {
-        return say::error(out, p, b"number");
-    };
-    rows(
-        first as usize,
-        size as usize,
-        text::field(line, 3),
-        room,
-        space,
-        out,
-        p,
-    )
-}
-
-fn rows(
-    first: usize,
-    size: usize,
-    digits: &[u8],
-    room: usize,
-    space: &mut [u8],
-    out: &mut [u8],
-    p: Place,
-) -> Place {
-    let got = text::unhex(digits, space);
-    let n = got.n;
-    if !got.good {
-        return say::error(out, p, b"hex");
+    let bytes = protocol::part(space, a, 2);
+    if bytes.len() <= 512 {
+        return few(a, bytes, room, out, p);
     }
-    if n <= 512 {
-        return few(first, size, &space[..n], room, out, p);
-    }
-    many(first, size, &space[..n], room, out, p)
+    many(a, bytes, room, out, p)
 }
 
 // No directory has more files than bytes, so these have room for all.
-fn few(first: usize, size: usize, bytes: &[u8], room: usize, out: &mut [u8], p: Place) -> Place {
+fn few(a: Args, bytes: &[u8], room: usize, out: &mut [u8], p: Place) -> Place {
     let none = [0u32; 4];
     let mut files = [none; 512];
-    parsed(first, size, bytes, room, &mut files, out, p)
+    parsed(a, bytes, room, &mut files, out, p)
 }
 
-fn many(first: usize, size: usize, bytes: &[u8], room: usize, out: &mut [u8], p: Place) -> Place {
+fn many(a: Args, bytes: &[u8], room: usize, out: &mut [u8], p: Place) -> Place {
     let none = [0u32; 4];
     let mut files = [none; 65535];
-    parsed(first, size, bytes, room, &mut files, out, p)
+    parsed(a, bytes, room, &mut files, out, p)
 }
 
 fn parsed(
-    first: usize,
-    size: usize,
+    a: Args,
     bytes: &[u8],
     room: usize,
     files: &mut [[u32; 4]],
@@ -71,8 +42,12 @@ fn parsed(
     p: Place,
 ) -> Place {
     let n = within(room, files);
-    let l = directory::parse_file_directory(first, size, bytes, &mut files[..n]);
-    shown(l, files, out, p)
+    let first = protocol::number(a, 0) as usize;
+    let size = protocol::number(a, 1) as usize;
+    match directory::parse_file_directory(first, size, bytes, &mut files[..n]) {
+        Listed::Refused(k) => say::refused(out, p, k),
+        Listed::Files(m) => listed(files, m, out, p),
+    }
 }
 
 // A number of files that there is room for.
@@ -85,17 +60,10 @@ fn within(n: usize, files: &[[u32; 4]]) -> usize
     files.len()
 }
 
-fn shown(l: Listed, files: &[[u32; 4]], out: &mut [u8], p: Place) -> Place {
-    match l {
-        Listed::Refused(k) => say::refused(out, p, k),
-        Listed::Files(n) => listed(files, n, out, p),
-    }
-}
-
 fn listed(files: &[[u32; 4]], n: usize, out: &mut [u8], p: Place) -> Place {
     let k = base::least(n, files.len());
-    let a = say::plain(out, p, b"ok");
-    let mut q = show::number(b' ', k as u64, out, a);
+    let a = say::plain(out, p, b"ok ");
+    let mut q = say::number(out, a, k as u64);
     let mut i = 0;
     while i < k {
         q = file(files[i], out, q);
@@ -105,12 +73,18 @@ fn listed(files: &[[u32; 4]], n: usize, out: &mut [u8], p: Place) -> Place {
 }
 
 fn file(f: [u32; 4], out: &mut [u8], p: Place) -> Place {
-    let a = show::code((f[0] % 256) as u8, out, p);
-    let b = count(f[1], out, a);
-    let c = count(f[2], out, b);
-    count(f[3], out, c)
+    let mut text = [0u8; 64];
+    say_row(f, &mut text, out, p)
 }
 
-fn count(n: u32, out: &mut [u8], p: Place) -> Place {
-    show::number(b':', n as u64, out, p)
+fn say_row(f: [u32; 4], text: &mut [u8], out: &mut [u8], p: Place) -> Place {
+    let k = text::within(row(f, text), text);
+    say::plain(out, p, &text[..k])
+}
+
+fn row(f: [u32; 4], text: &mut [u8]) -> usize {
+    let a = protocol::put_code(text, 0, b' ', (f[0] % 256) as u8);
+    let b = protocol::put_number(text, a, b':', f[1] as u64);
+    let c = protocol::put_number(text, b, b':', f[2] as u64);
+    protocol::put_number(text, c, b':', f[3] as u64)
 }

@@ -1,99 +1,75 @@
-// A value as the fields KIND VALUE of a line give it: `int N`, `float BITS`, `text TEXT`, `words A,B,C`, `field NAME N`.
-ghost use mathlib.Core.Path.{_≡_};
-ghost use Prim.Native.Nat.{_≤_};
-ghost use lib.ListN.{length, take};
+// A value as the fields KIND VALUE of a line give it: `int N`, `float BITS`, `words A,B,C`, `text BYTES`, `field NAME N`. The bytes of a text or a
+// name are read with the line's other fields.
 use decimal::Whole;
-use encode::Value;
-use text::Bytes;
 use text::Long;
+use values::Value;
 
-pub enum Kind {
-    Int,
-    Float,
-    Text,
-    Words,
-    Field,
-    Unknown,
-}
+pub const INT: u8 = 1;
 
-pub fn kind_of(s: &[u8]) -> Kind {
+pub const FLOAT: u8 = 2;
+
+pub const WORDS: u8 = 3;
+
+pub const TEXT: u8 = 4;
+
+pub const FIELD: u8 = 5;
+
+// The kind; 0 where there is none of this name.
+pub fn kind_of(s: &[u8]) -> u8 {
     if text::is(s, b"int") {
-        return Kind::Int;
+        return INT;
     }
     if text::is(s, b"float") {
-        return Kind::Float;
-    }
-    if text::is(s, b"text") {
-        return Kind::Text;
+        return FLOAT;
     }
     if text::is(s, b"words") {
-        return Kind::Words;
+        return WORDS;
+    }
+    with_text(s)
+}
+
+fn with_text(s: &[u8]) -> u8 {
+    if text::is(s, b"text") {
+        return TEXT;
     }
     if text::is(s, b"field") {
-        return Kind::Field;
+        return FIELD;
     }
-    Kind::Unknown
+    0
 }
 
-// How many fields a value of this kind has behind KIND.
-pub fn fields_of(k: Kind) -> usize {
-    match k {
-        Kind::Int => 1,
-        Kind::Float => 1,
-        Kind::Text => 1,
-        Kind::Words => 1,
-        Kind::Field => 2,
-        Kind::Unknown => 0,
-    }
-}
-
-// The text of a value or the name of its field, from the first field behind KIND; empty where its kind has neither.
-pub fn text_of(k: Kind, first: &[u8], out: &mut [u8]) -> Bytes
-    ensures { λ r. ⌜ (r .n ≤ length (now (out .exit))) × (r .n ≡ length (take (r .n) (now (out .exit)))) ⌝ }
-{
-    match k {
-        Kind::Int => text::unhex(b"-", out),
-        Kind::Float => text::unhex(b"-", out),
-        Kind::Text => text::unhex(first, out),
-        Kind::Words => text::unhex(b"-", out),
-        Kind::Field => text::unhex(first, out),
-        Kind::Unknown => text::unhex(b"-", out),
-    }
-}
-
-// A value, or which shape a field should have and hasn't.
+// A value, or why the line is none of the protocol.
 pub enum Given {
     Is(Value),
-    NoHex,
-    NoNumber,
+    No(u8),
 }
 
 fn whole(s: &[u8]) -> Given {
     match decimal::signed(s) {
         Whole::Is(n) => Given::Is(Value::Whole(n)),
-        Whole::No => Given::NoNumber,
+        Whole::No => Given::No(protocol::NUMBER),
     }
 }
 
 fn float(s: &[u8]) -> Given {
     match text::bits(s) {
         Long::Is(b) => Given::Is(Value::Float(b)),
-        Long::No => Given::NoHex,
+        Long::No => Given::No(protocol::HEX),
     }
 }
 
 fn words(s: &[u8]) -> Given {
     if text::parts(s, b',') != 3 {
-        return Given::NoNumber;
+        return Given::No(protocol::NUMBER);
     }
     let Whole::Is(a) = decimal::signed(text::part(s, b',', 0)) else {
-        return Given::NoNumber;
+        return Given::No(protocol::NUMBER);
     };
     let Whole::Is(b) = decimal::signed(text::part(s, b',', 1)) else {
-        return Given::NoNumber;
+        return Given::No(protocol::NUMBER);
     };
     let Whole::Is(c) = decimal::signed(text::part(s, b',', 2)) else {
-        return Given::NoNumber;
+        return Given::No(protocol::NUMBER);
     };
     Given::Is(Value::Words(a, b, c))
 }
@@ -101,18 +77,23 @@ fn words(s: &[u8]) -> Given {
 fn field(s: &[u8]) -> Given {
     match decimal::signed(s) {
         Whole::Is(n) => Given::Is(Value::Field(n)),
-        Whole::No => Given::NoNumber,
+        Whole::No => Given::No(protocol::NUMBER),
     }
 }
 
-// The value, from the two fields behind KIND. Its text is that of `text_of`.
-pub fn value_of(k: Kind, first: &[u8], second: &[u8]) -> Given {
-    match k {
-        Kind::Int => whole(first),
-        Kind::Float => float(first),
-        Kind::Text => Given::Is(Value::Text),
-        Kind::Words => words(first),
-        Kind::Field => field(second),
-        Kind::Unknown => Given::NoNumber,
+// The value, from the two fields behind KIND.
+pub fn value_of(k: u8, first: &[u8], second: &[u8]) -> Given {
+    if k == INT {
+        return whole(first);
     }
+    if k == FLOAT {
+        return float(first);
+    }
+    if k == WORDS {
+        return words(first);
+    }
+    if k == TEXT {
+        return Given::Is(Value::Text);
+    }
+    field(second)
 }

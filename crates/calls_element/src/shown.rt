@@ -1,26 +1,25 @@
 // An element as it is shown: `i:N`, `f:BITS`, `s:BYTES`, `t:word1:word2:bits`.
 use decode::Element;
 use file_type::FileType;
-use say::Place;
+use protocol::Told;
 
-// `ok` and the value of an element, or its refusal. Its text stands in `text`.
-pub fn element(t: FileType, e: Element, text: &[u8], out: &mut [u8], p: Place) -> Place {
+// The value of an element, or its refusal. Its text stands in `text`.
+pub fn element(t: FileType, e: Element, text: &[u8], memory: &mut [u8]) -> Told {
     match e {
-        Element::Refused(k) => say::refused(out, p, k),
-        Element::Whole(n) => whole(n, out, p),
-        Element::Float(b) => float(b, out, p),
-        Element::Text(n) => characters(text, n, out, p),
-        Element::Fields(a, b, w) => fields(t, a, b, w, out, p),
+        Element::Refused(k) => Told::Refused(k),
+        Element::Whole(n) => Told::Text(whole(n, memory)),
+        Element::Float(b) => Told::Text(float(b, memory)),
+        Element::Text(n) => Told::Text(characters(text, n, memory)),
+        Element::Fields(a, b, w) => Told::Text(words_and_bits(t, a, b, w, memory)),
     }
 }
 
-fn whole(n: i32, out: &mut [u8], p: Place) -> Place {
-    let a = say::plain(out, p, b"ok i:");
-    let b = say::signed(out, a, decimal::of_long(n));
-    say::plain(out, b, b"\n")
+fn whole(n: i32, memory: &mut [u8]) -> usize {
+    let a = base::put_all(memory, 0, b" i");
+    protocol::put_signed(memory, a, b':', decimal::of_long(n))
 }
 
-fn float(bits: u32, out: &mut [u8], p: Place) -> Place {
+fn float(bits: u32, memory: &mut [u8]) -> usize {
     let high = bits / 65536;
     let low = bits % 65536;
     let bytes = [
@@ -29,42 +28,34 @@ fn float(bits: u32, out: &mut [u8], p: Place) -> Place {
         (low / 256) as u8,
         (low % 256) as u8,
     ];
-    let a = say::plain(out, p, b"ok f:");
-    let b = say::hex(out, a, &bytes);
-    say::plain(out, b, b"\n")
+    let a = base::put_all(memory, 0, b" f");
+    protocol::put_byte_string(memory, a, b':', &bytes)
 }
 
-fn characters(text: &[u8], n: usize, out: &mut [u8], p: Place) -> Place {
+fn characters(text: &[u8], n: usize, memory: &mut [u8]) -> usize {
     let k = text::within(n, text);
-    let a = say::plain(out, p, b"ok s:");
-    let b = say::byte_string(out, a, &text[..k]);
-    say::plain(out, b, b"\n")
+    let a = base::put_all(memory, 0, b" s");
+    protocol::put_byte_string(memory, a, b':', &text[..k])
 }
 
-fn fields(t: FileType, a: i16, b: i16, w: u16, out: &mut [u8], p: Place) -> Place {
-    let q = words(a, b, out, p);
-    let r = named_bits(t, w, out, q);
-    say::plain(out, r, b"\n")
-}
-
-fn words(a: i16, b: i16, out: &mut [u8], p: Place) -> Place {
-    let q = say::plain(out, p, b"ok t:");
-    let r = say::signed(out, q, decimal::of_word(a));
-    let s = say::plain(out, r, b":");
-    let u = say::signed(out, s, decimal::of_word(b));
-    say::plain(out, u, b":")
+fn words_and_bits(t: FileType, a: i16, b: i16, w: u16, memory: &mut [u8]) -> usize {
+    let c = base::put_all(memory, 0, b" t");
+    let d = protocol::put_signed(memory, c, b':', decimal::of_word(a));
+    let e = protocol::put_signed(memory, d, b':', decimal::of_word(b));
+    let f = base::put_all(memory, e, b":");
+    named_bits(t, w, memory, f)
 }
 
 // A digit for each named bit, from bit 15 down.
-fn named_bits(t: FileType, w: u16, out: &mut [u8], p: Place) -> Place {
-    let n = t.bits();
+fn named_bits(t: FileType, w: u16, memory: &mut [u8], at: usize) -> usize {
+    let n = fields::bits(t);
     let mut rest = w;
-    let mut q = p;
+    let mut place = at;
     let mut i = 0;
     while i < n {
-        q = say::number(out, q, (rest / 32768) as u64);
+        place = decimal::put_decimal(memory, place, (rest / 32768) as u64);
         rest = (rest % 32768) * 2;
         i += 1;
     }
-    q
+    place
 }

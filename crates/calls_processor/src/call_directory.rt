@@ -1,24 +1,19 @@
-// `directory`: `ok BYTES`, the whole directory, as our own requests read it out of our processor
+// `directory`: the whole directory, as our own requests read it out of our processor
 ghost use Prim.Native.Nat.{_≤_};
-use crate::call_cmd;
-use frame::Message;
+use crate::asked;
+use client_requests::Message;
 use frame::Requestor;
 use model::Answered;
-use say::Place;
+use protocol::Told;
 use sys0::Sys0Info;
 
-pub fn answer(line: &[u8], store: &mut [u8], out: &mut [u8], p: Place) -> Place {
-    if text::fields(line) != 1 {
-        return say::error(out, p, b"fields");
-    }
+pub fn answer(memory: &mut [u8], store: &mut [u8]) -> Told {
     if sim_store::files(store) == 0 {
-        return say::refused(out, p, 16);
+        return Told::Refused(16);
     }
     let info = layout(store);
-    let length = size(info, store);
-    let a = say::plain(out, p, b"ok ");
-    let b = rows(info, length, store, out, a);
-    say::plain(out, b, b"\n")
+    let total = size(info, store);
+    Told::Bytes(rows(info, total, memory, store))
 }
 
 fn layout(store: &[u8]) -> Sys0Info {
@@ -34,28 +29,28 @@ fn written(m: Message) -> usize {
     }
 }
 
-// The data of a reply behind its frame: 7 bytes of requester, CMD, STS and TNS.
-fn asked(message: &[u8], n: usize, reply: &mut [u8], store: &mut [u8]) -> usize {
-    let end = text::within(n, message);
+// The length of the reply to a message, whose command stands behind its first 6 bytes.
+fn replied(message: &[u8], m: Message, reply: &mut [u8], store: &mut [u8]) -> usize {
+    let end = text::within(written(m), message);
     let command = &message[..end];
     let start = text::within(6, command);
-    match call_cmd::obeyed(&command[start..], reply, store) {
+    match asked::obeyed(&command[start..], reply, store) {
         Answered::Refused(k) => 0,
-        Answered::Reply(m) => m,
+        Answered::Reply(n) => n,
     }
 }
 
 // The size element, less what the processor adds.
 fn size(info: Sys0Info, store: &mut [u8]) -> u16 {
     let mut message = [0u8; 32];
-    let n = written(frame::file_directory_size_request(
+    let m = client_requests::file_directory_size_request(
         info,
         Requestor::default(),
         0,
         &mut message,
-    ));
+    );
     let mut reply = [0u8; 600];
-    asked(&message, n, &mut reply, store);
+    replied(&message, m, &mut reply, store);
     let told = base::word_at(&reply, 11);
     if told < info.size_const {
         return 0;
@@ -63,48 +58,43 @@ fn size(info: Sys0Info, store: &mut [u8]) -> u16 {
     told - info.size_const
 }
 
-// 200 bytes at a time, from a word on.
-fn rows(info: Sys0Info, total: u16, store: &mut [u8], out: &mut [u8], p: Place) -> Place {
-    let mut q = p;
+// 200 bytes at a time, from a word on. The answer is how many bytes were laid.
+fn rows(info: Sys0Info, total: u16, memory: &mut [u8], store: &mut [u8]) -> usize {
+    let mut end = 0;
     let mut at = 0;
     while 2 * at < total as usize {
-        q = part(
-            info,
-            at,
-            base::least(200, total as usize - 2 * at),
-            store,
-            out,
-            q,
-        );
+        let n = base::least(200, total as usize - 2 * at);
+        end = part(info, at, n, memory, end, store);
         at += 100;
     }
-    q
+    end
 }
 
 fn part(
     info: Sys0Info,
     at: usize,
     size: usize,
+    memory: &mut [u8],
+    end: usize,
     store: &mut [u8],
-    out: &mut [u8],
-    p: Place,
-) -> Place {
+) -> usize {
     let mut message = [0u8; 32];
-    let n = written(frame::file_directory_read_request(
+    let m = client_requests::file_directory_read_request(
         info.file_type,
         at,
         (size % 256) as u8,
         Requestor::default(),
         0,
         &mut message,
-    ));
+    );
     let mut reply = [0u8; 600];
-    let m = asked(&message, n, &mut reply, store);
-    shown(&reply, m, out, p)
+    let n = replied(&message, m, &mut reply, store);
+    laid(&reply, n, memory, end)
 }
 
-fn shown(reply: &[u8], m: usize, out: &mut [u8], p: Place) -> Place {
-    let whole = &reply[..text::within(m, reply)];
+// The reply's data, behind 7 bytes of requester, CMD, STS and TNS.
+fn laid(reply: &[u8], n: usize, memory: &mut [u8], end: usize) -> usize {
+    let whole = &reply[..text::within(n, reply)];
     let start = text::within(11, whole);
-    say::hex(out, p, &whole[start..])
+    base::put_all(memory, end, &whole[start..])
 }

@@ -1,39 +1,64 @@
-// The calls of the line protocol on replies (module 4), one file each. Each has one field behind its name.
-mod call_datalogparse;
-mod call_errtext;
-mod call_status;
-mod show;
+// The calls of the line protocol on replies (module 4). `space` is for the bytes of fields, `memory` for the answer, of which a status text
+// gets `room` bytes.
+use protocol::Args;
+use protocol::Told;
+use status_text::StatusText;
 
-use say::Place;
+const STATUS: u8 = 1;
 
-// Is this the word of one of these calls?
-pub fn knows(call: &[u8]) -> bool {
-    text::is(call, b"status") || text::is(call, b"errtext") || text::is(call, b"datalogparse")
-}
+const ERROR_TEXT: u8 = 2;
 
-// Answers a line that begins with one of these calls; a status text is written to an output of at most `room` bytes. `space` is for the
-// bytes of its field.
-pub fn answer(
-    call: &[u8],
-    line: &[u8],
-    room: usize,
-    space: &mut [u8],
-    out: &mut [u8],
-    p: Place,
-) -> Place {
-    if text::fields(line) != 2 {
-        return say::error(out, p, b"fields");
+const DATALOG: u8 = 3;
+
+fn which(call: &[u8]) -> u8 {
+    if text::is(call, b"status") {
+        return STATUS;
     }
     if text::is(call, b"errtext") {
-        return call_errtext::answer(text::field(line, 1), room, out, p);
+        return ERROR_TEXT;
     }
-    let got = text::unhex(text::field(line, 1), space);
-    let n = got.n;
-    if !got.good {
-        return say::error(out, p, b"hex");
+    if text::is(call, b"datalogparse") {
+        return DATALOG;
     }
-    if text::is(call, b"status") {
-        return call_status::answer(&space[..n], room, out, p);
+    0
+}
+
+pub fn answer(call: &[u8], line: &[u8], room: usize, space: &mut [u8], memory: &mut [u8]) -> Told {
+    let k = which(call);
+    if k == 0 {
+        return Told::Error(protocol::CALL);
     }
-    call_datalogparse::answer(&space[..n], out, p)
+    let a = args(k, line, space);
+    if a.why != 0 {
+        return Told::Error(a.why);
+    }
+    if k == DATALOG {
+        let entry = reply::parse_datalog(protocol::part(space, a, 0));
+        return Told::Bytes(base::put_all(memory, 0, entry));
+    }
+    told(k, a, room, space, memory)
+}
+
+// `status RAWREPLY`, `errtext STATUS`, `datalogparse RAWREPLY`
+fn args(k: u8, line: &[u8], space: &mut [u8]) -> Args {
+    if k == ERROR_TEXT {
+        return protocol::read(line, b"c", space);
+    }
+    protocol::read(line, b"x", space)
+}
+
+fn told(k: u8, a: Args, room: usize, space: &[u8], memory: &mut [u8]) -> Told {
+    let n = text::within(room, memory);
+    if k == STATUS {
+        return of_text(reply::request_status(protocol::part(space, a, 0), &mut memory[..n]));
+    }
+    of_text(status_text::pccc_error_text(protocol::byte(a, 0), &mut memory[..n]))
+}
+
+fn of_text(t: StatusText) -> Told {
+    match t {
+        StatusText::Nothing => Told::Nothing,
+        StatusText::Written(n) => Told::Bytes(n),
+        StatusText::Refused(k) => Told::Refused(k),
+    }
 }

@@ -1,126 +1,61 @@
-// `write TAG REQ SEQ KIND VALUE`: `ok MESSAGE`; KIND VALUE is `raw BYTES`, `bool 0`, `bool 1` or `text LATIN1`
-use crate::fields;
-use crate::fields::Word;
-use crate::told;
-use frame::Requestor;
+// `write TAG REQ SEQ KIND VALUE`; KIND VALUE is `raw BYTES`, `bool 0`, `bool 1` or `text LATIN1`
+use protocol::Args;
+use protocol::Told;
 use request::Value;
-use say::Place;
 
-enum Kind {
-    Bytes(Value),
-    Bool,
-    Unknown,
-}
+const RAW: u8 = 1;
 
-fn kind_of(s: &[u8]) -> Kind {
+const TEXT: u8 = 2;
+
+const BOOL: u8 = 3;
+
+fn kind_of(s: &[u8]) -> u8 {
     if text::is(s, b"raw") {
-        return Kind::Bytes(Value::Raw);
+        return RAW;
     }
     if text::is(s, b"text") {
-        return Kind::Bytes(Value::Text);
+        return TEXT;
     }
     if text::is(s, b"bool") {
-        return Kind::Bool;
+        return BOOL;
     }
-    Kind::Unknown
+    0
 }
 
-pub fn answer(
-    line: &[u8],
-    space: &mut [u8],
-    more: &mut [u8],
-    message: &mut [u8],
-    out: &mut [u8],
-    p: Place,
-) -> Place {
-    if text::fields(line) < 5 {
-        return say::error(out, p, b"fields");
+fn args(kind: u8, line: &[u8], space: &mut [u8]) -> Args {
+    let why = protocol::kind_fault(line, 4, kind);
+    if why != 0 {
+        return protocol::fault(why);
     }
+    if kind == BOOL {
+        return protocol::read(line, b"xqs_1", space);
+    }
+    protocol::read(line, b"xqs_x", space)
+}
+
+fn value_of(kind: u8, n: u64) -> Value {
+    if kind == RAW {
+        return Value::Raw;
+    }
+    if kind == TEXT {
+        return Value::Text;
+    }
+    Value::Bool(n == 1)
+}
+
+pub fn answer(line: &[u8], space: &mut [u8], message: &mut [u8]) -> Told {
     let kind = kind_of(text::field(line, 4));
-    if let Kind::Unknown = kind {
-        return say::error(out, p, b"kind");
+    let a = args(kind, line, space);
+    if a.why != 0 {
+        return Told::Error(a.why);
     }
-    if text::fields(line) != 6 {
-        return say::error(out, p, b"fields");
-    }
-    let got = text::unhex(text::field(line, 1), space);
-    let n = got.n;
-    if !got.good {
-        return say::error(out, p, b"hex");
-    }
-    asked(line, kind, &space[..n], more, message, out, p)
+    built(kind, a, space, message)
 }
 
-fn asked(
-    line: &[u8],
-    kind: Kind,
-    tag: &[u8],
-    more: &mut [u8],
-    message: &mut [u8],
-    out: &mut [u8],
-    p: Place,
-) -> Place {
-    let who = fields::requestor(text::field(line, 2));
-    if !who.good {
-        return say::error(out, p, b"hex");
-    }
-    let Word::Is(sequence) = fields::sequence(text::field(line, 3)) else {
-        return say::error(out, p, b"number");
-    };
-    given(
-        tag,
-        who.q,
-        sequence,
-        kind,
-        text::field(line, 5),
-        more,
-        message,
-        out,
-        p,
-    )
-}
-
-fn given(
-    tag: &[u8],
-    q: Requestor,
-    sequence: u16,
-    kind: Kind,
-    value: &[u8],
-    more: &mut [u8],
-    message: &mut [u8],
-    out: &mut [u8],
-    p: Place,
-) -> Place {
-    match kind {
-        Kind::Unknown => say::error(out, p, b"kind"),
-        Kind::Bool => flag(tag, q, sequence, value, message, out, p),
-        Kind::Bytes(v) => {
-            let got = text::unhex(value, more);
-            let n = got.n;
-            if !got.good {
-                return say::error(out, p, b"hex");
-            }
-            let r = request::write_request(tag, v, &more[..n], q, sequence, message);
-            told::request(r, message, out, p)
-        }
-    }
-}
-
-fn flag(
-    tag: &[u8],
-    q: Requestor,
-    sequence: u16,
-    value: &[u8],
-    message: &mut [u8],
-    out: &mut [u8],
-    p: Place,
-) -> Place {
-    let Word::Is(n) = fields::byte(value) else {
-        return say::error(out, p, b"number");
-    };
-    if 1 < n {
-        return say::error(out, p, b"number");
-    }
-    let r = request::write_request(tag, Value::Bool(n == 1), b"", q, sequence, message);
-    told::request(r, message, out, p)
+fn built(kind: u8, a: Args, space: &[u8], message: &mut [u8]) -> Told {
+    let v = value_of(kind, protocol::number(a, 4));
+    let q = crate::requestor(protocol::part(space, a, 1));
+    let tag = protocol::part(space, a, 0);
+    let given = protocol::part(space, a, 4);
+    crate::of_request(request::write_request(tag, v, given, q, protocol::word(a, 2), message))
 }

@@ -1,75 +1,58 @@
-// `dump`: `ok n number:CODE:BYTES .. log k ENTRY ..`
+// `dump`: n number:CODE:BYTES .. log k ENTRY ..
 use model::FileRecord;
-use say::Place;
 
-pub fn answer(line: &[u8], store: &[u8], out: &mut [u8], p: Place) -> Place {
-    if text::fields(line) != 1 {
-        return say::error(out, p, b"fields");
-    }
+pub fn shown(memory: &mut [u8], store: &[u8]) -> usize {
     let n = sim_store::files(store);
-    if n == 0 {
-        return say::refused(out, p, 16);
-    }
-    let a = say::plain(out, p, b"ok ");
-    let b = say::number(out, a, n as u64);
-    let c = files(n, store, out, b);
-    entries(store, out, c)
+    let a = protocol::put_number(memory, 0, b' ', n as u64);
+    let b = files(n, store, memory, a);
+    entries(store, memory, b)
 }
 
-fn files(n: u16, store: &[u8], out: &mut [u8], p: Place) -> Place {
-    let mut q = p;
+fn files(n: u16, store: &[u8], memory: &mut [u8], from: usize) -> usize {
+    let mut at = from;
     let mut i = 0;
     while i < n {
-        q = file(sim_store::record(store, i), store, out, q);
+        at = file(sim_store::record(store, i), store, memory, at);
         i += 1;
     }
-    q
+    at
 }
 
-fn file(r: FileRecord, store: &[u8], out: &mut [u8], p: Place) -> Place {
-    let q = named(r.number as u64, r.code, out, p);
-    let a = text::within(r.start as usize, store);
-    let rest = &store[a..];
+fn file(r: FileRecord, store: &[u8], memory: &mut [u8], at: usize) -> usize {
+    let a = protocol::put_number(memory, at, b' ', r.number as u64);
+    let b = protocol::put_code(memory, a, b':', r.code);
+    let start = text::within(r.start as usize, store);
+    let rest = &store[start..];
     let n = text::within(r.length as usize, rest);
-    say::byte_string(out, q, &rest[..n])
-}
-
-fn named(number: u64, code: u8, out: &mut [u8], p: Place) -> Place {
-    let a = say::plain(out, p, b" ");
-    let b = say::number(out, a, number);
-    let c = say::plain(out, b, b":");
-    let d = say::hex(out, c, &[code]);
-    say::plain(out, d, b":")
+    protocol::put_byte_string(memory, b, b':', &rest[..n])
 }
 
 // The entries that are left, each a length word and its bytes.
-fn entries(store: &[u8], out: &mut [u8], p: Place) -> Place {
+fn entries(store: &[u8], memory: &mut [u8], at: usize) -> usize {
     let s = sim_store::slc(store);
-    let a = say::plain(out, p, b" log ");
-    let b = say::number(out, a, s.log_left as u64);
+    let a = base::put_all(memory, at, b" log");
+    let b = protocol::put_number(memory, a, b' ', s.log_left as u64);
     let log = sim_store::log(store);
-    let c = listed(&log, s.log_at, s.log_left, out, b);
-    say::plain(out, c, b"\n")
+    listed(&log, s.log_at, s.log_left, memory, b)
 }
 
-fn listed(log: &[u8], at: usize, count: usize, out: &mut [u8], p: Place) -> Place {
-    let mut q = p;
-    let mut from = at;
+fn listed(log: &[u8], from: usize, count: usize, memory: &mut [u8], at: usize) -> usize {
+    let mut place = at;
+    let mut next = from;
     let mut left = base::least(count, 64);
     while 0 < left {
-        let a = text::within(from, log);
+        let a = text::within(next, log);
         let rest = &log[a..];
         let n = base::word_at(rest, 0) as usize;
-        q = entry(rest, n, out, q);
-        from = a + 2 + n;
+        place = entry(rest, n, memory, place);
+        next = a + 2 + n;
         left -= 1;
     }
-    q
+    place
 }
 
-fn entry(rest: &[u8], n: usize, out: &mut [u8], p: Place) -> Place {
-    let q = say::plain(out, p, b" ");
+fn entry(rest: &[u8], n: usize, memory: &mut [u8], at: usize) -> usize {
     let a = text::within(2, rest);
     let bytes = &rest[a..];
-    say::byte_string(out, q, &bytes[..text::within(n, bytes)])
+    protocol::put_byte_string(memory, at, b' ', &bytes[..text::within(n, bytes)])
 }

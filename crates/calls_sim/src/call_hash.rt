@@ -1,15 +1,12 @@
-// `hash`: `ok H k`, FNV-1a (64 bits) of all file bytes in ascending file order, and how many datalog entries are left
-use say::Place;
-
-pub fn answer(line: &[u8], store: &[u8], out: &mut [u8], p: Place) -> Place {
-    if text::fields(line) != 1 {
-        return say::error(out, p, b"fields");
-    }
-    if sim_store::files(store) == 0 {
-        return say::refused(out, p, 16);
-    }
+// `hash`: H k, FNV-1a (64 bits) of all file bytes in ascending file order, and how many datalog entries are left
+pub fn shown(memory: &mut [u8], store: &[u8]) -> usize {
     let s = sim_store::slc(store);
-    shown(sum(data(store)), s.log_left as u64, out, p)
+    let h = sum(data(store));
+    let mut bytes = [0u8; 8];
+    half(h.high, &mut bytes, 0);
+    half(h.low, &mut bytes, 4);
+    let a = protocol::put_byte_string(memory, 0, b' ', &bytes);
+    protocol::put_number(memory, a, b' ', s.log_left as u64)
 }
 
 // The bytes of the files, which lie end to end from 0 on.
@@ -59,27 +56,10 @@ fn sum(bytes: &[u8]) -> Hash {
     h
 }
 
-fn half(n: u64, out: &mut [u8], p: Place) -> Place {
-    let high = (n / 65536) % 65536;
-    let low = n % 65536;
-    let bytes = [
-        (high / 256) as u8,
-        (high % 256) as u8,
-        (low / 256) as u8,
-        (low % 256) as u8,
-    ];
-    say::hex(out, p, &bytes)
-}
-
-fn shown(h: Hash, left: u64, out: &mut [u8], p: Place) -> Place {
-    let a = say::plain(out, p, b"ok ");
-    let b = half(h.high, out, a);
-    let c = half(h.low, out, b);
-    counted(left, out, c)
-}
-
-fn counted(n: u64, out: &mut [u8], p: Place) -> Place {
-    let a = say::plain(out, p, b" ");
-    let b = say::number(out, a, n);
-    say::plain(out, b, b"\n")
+// Four bytes, high byte first.
+fn half(n: u64, out: &mut [u8], at: usize) {
+    let a = base::put_number(out, at, 1, n / 16777216);
+    let b = base::put_number(out, a, 1, n / 65536);
+    let c = base::put_number(out, b, 1, n / 256);
+    base::put_number(out, c, 1, n);
 }

@@ -1,112 +1,98 @@
 // `spoil KIND ..`: damages the processor's plain data, a test aid for question 16
-use decimal::Decimal;
 use model::FileRecord;
-use say::Place;
-use text::Byte;
+use protocol::Args;
+use protocol::Told;
 
-enum Kind {
-    Number(u8),
-    Record,
-    Text,
-    Log,
-    Unknown,
-}
+// `files N`, `typelen N`, `logat N`, `logleft N`; `text I CODE`, `log I CODE`; `record I NUMBER CODE START LENGTH`
+const FILES: u8 = 1;
 
-fn kind_of(s: &[u8]) -> Kind {
+const TYPE_LEN: u8 = 2;
+
+const LOG_AT: u8 = 3;
+
+const LOG_LEFT: u8 = 4;
+
+const TEXT: u8 = 5;
+
+const LOG: u8 = 6;
+
+const RECORD: u8 = 7;
+
+fn kind_of(s: &[u8]) -> u8 {
     if text::is(s, b"files") {
-        return Kind::Number(0);
+        return FILES;
     }
     if text::is(s, b"typelen") {
-        return Kind::Number(1);
+        return TYPE_LEN;
     }
     if text::is(s, b"logat") {
-        return Kind::Number(2);
+        return LOG_AT;
     }
     if text::is(s, b"logleft") {
-        return Kind::Number(3);
+        return LOG_LEFT;
     }
-    other_kind(s)
+    of_bytes(s)
 }
 
-fn other_kind(s: &[u8]) -> Kind {
-    if text::is(s, b"record") {
-        return Kind::Record;
-    }
+fn of_bytes(s: &[u8]) -> u8 {
     if text::is(s, b"text") {
-        return Kind::Text;
+        return TEXT;
     }
     if text::is(s, b"log") {
-        return Kind::Log;
+        return LOG;
     }
-    Kind::Unknown
+    if text::is(s, b"record") {
+        return RECORD;
+    }
+    0
 }
 
-pub fn answer(line: &[u8], store: &mut [u8], out: &mut [u8], p: Place) -> Place {
-    if text::fields(line) < 2 {
-        return say::error(out, p, b"fields");
+fn args(k: u8, line: &[u8], space: &mut [u8]) -> Args {
+    let why = protocol::kind_fault(line, 1, k);
+    if why != 0 {
+        return protocol::fault(why);
     }
+    if k < TEXT {
+        return protocol::read(line, b"_n", space);
+    }
+    if k < RECORD {
+        return protocol::read(line, b"_nc", space);
+    }
+    protocol::read(line, b"_nncnn", space)
+}
+
+pub fn answer(line: &[u8], space: &mut [u8], store: &mut [u8]) -> Told {
     let k = kind_of(text::field(line, 1));
-    match k {
-        Kind::Unknown => say::error(out, p, b"kind"),
-        Kind::Number(which) => number(line, which, store, out, p),
-        Kind::Record => record(line, store, out, p),
-        Kind::Text => byte(line, true, store, out, p),
-        Kind::Log => byte(line, false, store, out, p),
+    let a = args(k, line, space);
+    if a.why != 0 {
+        return Told::Error(a.why);
     }
+    keep(k, a, store);
+    Told::Done
 }
 
-fn number(line: &[u8], which: u8, store: &mut [u8], out: &mut [u8], p: Place) -> Place {
-    if text::fields(line) != 3 {
-        return say::error(out, p, b"fields");
-    }
-    let Decimal::Is(n) = decimal::number(text::field(line, 2)) else {
-        return say::error(out, p, b"number");
-    };
-    sim_store::keep_number(store, which, n);
-    say::plain(out, p, b"ok\n")
-}
-
-fn word(s: &[u8]) -> u16 {
-    match decimal::number(s) {
-        Decimal::No => 0,
-        Decimal::Is(n) => (n % 65536) as u16,
-    }
-}
-
-// `text I CODE`, `log I CODE`: a byte of the type text or of the datalog's memory
-fn byte(line: &[u8], text: bool, store: &mut [u8], out: &mut [u8], p: Place) -> Place {
-    if text::fields(line) != 4 {
-        return say::error(out, p, b"fields");
-    }
-    let Byte::Is(code) = text::code(text::field(line, 3)) else {
-        return say::error(out, p, b"hex");
-    };
-    keep(text, word(text::field(line, 2)), code, store);
-    say::plain(out, p, b"ok\n")
-}
-
-fn keep(text: bool, i: u16, code: u8, store: &mut [u8]) {
-    if text {
-        sim_store::keep_text(store, i, code);
+fn keep(k: u8, a: Args, store: &mut [u8]) {
+    if k < TEXT {
+        sim_store::keep_number(store, k, protocol::number(a, 1));
         return;
     }
-    sim_store::keep_log_byte(store, i, code);
+    if k == TEXT {
+        sim_store::keep_text(store, protocol::word(a, 1), protocol::byte(a, 2));
+        return;
+    }
+    if k == LOG {
+        sim_store::keep_log_byte(store, protocol::word(a, 1), protocol::byte(a, 2));
+        return;
+    }
+    keep_record(a, store);
 }
 
-// `record I NUMBER CODE START LENGTH`; a field that is no number counts as 0.
-fn record(line: &[u8], store: &mut [u8], out: &mut [u8], p: Place) -> Place {
-    if text::fields(line) != 7 {
-        return say::error(out, p, b"fields");
-    }
-    let Byte::Is(code) = text::code(text::field(line, 4)) else {
-        return say::error(out, p, b"hex");
-    };
+fn keep_record(a: Args, store: &mut [u8]) {
     let r = FileRecord {
-        number: word(text::field(line, 3)),
-        code,
-        start: word(text::field(line, 5)),
-        length: word(text::field(line, 6)),
+        number: protocol::word(a, 2),
+        code: protocol::byte(a, 3),
+        start: protocol::word(a, 4),
+        length: protocol::word(a, 5),
     };
-    sim_store::keep_record(store, word(text::field(line, 2)) % 256, r);
-    say::plain(out, p, b"ok\n")
+    sim_store::keep_record(store, protocol::word(a, 1) % 256, r);
 }

@@ -1,78 +1,115 @@
-// The calls of the line protocol on file types and texts (modules 1 and 2), one file each. Each has one field behind its name.
-mod call_ascii;
-mod call_ft;
-mod call_ftname;
-mod call_pairs;
-mod call_simft;
-mod call_string;
-mod call_swap;
-mod show;
+// The calls of the line protocol on file types and texts (modules 1 and 2). `space` is for the bytes of fields, `memory` for the answer.
+mod shown;
 
-use say::Place;
-use text::Byte;
+use file_type::FileType;
+use file_type::Known;
+use protocol::Args;
+use protocol::Told;
+use swap::Swapped;
 
-// Is this the word of one of these calls?
-pub fn knows(call: &[u8]) -> bool {
-    of_code(call) || of_bytes(call)
-}
+const FT: u8 = 1;
 
-fn of_code(call: &[u8]) -> bool {
-    text::is(call, b"ft") || text::is(call, b"simft")
-}
+const SIMFT: u8 = 2;
 
-fn of_bytes(call: &[u8]) -> bool {
-    text::is(call, b"ftname")
-        || text::is(call, b"swap")
-        || text::is(call, b"pairs")
-        || text::is(call, b"ascii")
-        || text::is(call, b"string")
-}
+const FTNAME: u8 = 3;
 
-// Answers a line that begins with one of these calls; `space` and `more` are for the bytes of its field.
-pub fn answer(
-    call: &[u8],
-    line: &[u8],
-    space: &mut [u8],
-    more: &mut [u8],
-    out: &mut [u8],
-    p: Place,
-) -> Place {
-    if text::fields(line) != 2 {
-        return say::error(out, p, b"fields");
-    }
-    if of_code(call) {
-        return code(call, text::field(line, 1), out, p);
-    }
-    let got = text::unhex(text::field(line, 1), space);
-    let n = got.n;
-    if !got.good {
-        return say::error(out, p, b"hex");
-    }
-    bytes(call, &mut space[..n], more, out, p)
-}
+const SWAP: u8 = 4;
 
-fn code(call: &[u8], digits: &[u8], out: &mut [u8], p: Place) -> Place {
-    let Byte::Is(code) = text::code(digits) else {
-        return say::error(out, p, b"hex");
-    };
+const PAIRS: u8 = 5;
+
+const ASCII: u8 = 6;
+
+const STRING: u8 = 7;
+
+fn which(call: &[u8]) -> u8 {
     if text::is(call, b"ft") {
-        return call_ft::answer(code, out, p);
+        return FT;
     }
-    call_simft::answer(code, out, p)
+    if text::is(call, b"simft") {
+        return SIMFT;
+    }
+    if text::is(call, b"ftname") {
+        return FTNAME;
+    }
+    which_text(call)
 }
 
-fn bytes(call: &[u8], given: &mut [u8], more: &mut [u8], out: &mut [u8], p: Place) -> Place {
-    if text::is(call, b"ftname") {
-        return call_ftname::answer(given, out, p);
-    }
+fn which_text(call: &[u8]) -> u8 {
     if text::is(call, b"swap") {
-        return call_swap::answer(given, more, out, p);
+        return SWAP;
     }
     if text::is(call, b"pairs") {
-        return call_pairs::answer(given, out, p);
+        return PAIRS;
     }
     if text::is(call, b"ascii") {
-        return call_ascii::answer(given, out, p);
+        return ASCII;
     }
-    call_string::answer(given, out, p)
+    if text::is(call, b"string") {
+        return STRING;
+    }
+    0
+}
+
+pub fn answer(call: &[u8], line: &[u8], space: &mut [u8], memory: &mut [u8]) -> Told {
+    let k = which(call);
+    if k == 0 {
+        return Told::Error(protocol::CALL);
+    }
+    let a = args(k, line, space);
+    if a.why != 0 {
+        return Told::Error(a.why);
+    }
+    if k < FTNAME {
+        return of_type(k, FileType::from_code(protocol::byte(a, 0)), memory);
+    }
+    of_bytes(k, protocol::part(space, a, 0), memory)
+}
+
+// `ft CODE`, `simft CODE`; `ftname NAME`, `swap BYTES`, `pairs BYTES`, `ascii LATIN1`, `string LATIN1`
+fn args(k: u8, line: &[u8], space: &mut [u8]) -> Args {
+    if k < FTNAME {
+        return protocol::read(line, b"c", space);
+    }
+    protocol::read(line, b"x", space)
+}
+
+fn of_type(k: u8, known: Known, memory: &mut [u8]) -> Told {
+    match known {
+        Known::Unknown => Told::Nothing,
+        Known::Is(t) => {
+            if k == SIMFT {
+                return shown::simulated(t, memory);
+            }
+            Told::Text(shown::file_type(t, memory))
+        }
+    }
+}
+
+fn of_bytes(k: u8, given: &[u8], memory: &mut [u8]) -> Told {
+    if k == FTNAME {
+        return of_type(k, FileType::from_name(given), memory);
+    }
+    if k == SWAP {
+        return swapped(given, memory);
+    }
+    if k == PAIRS {
+        return pairs(given, memory);
+    }
+    if k == ASCII {
+        return Told::Bytes(base::put_all(memory, 0, &swap::encode_pccc_ascii(given)));
+    }
+    Told::Bytes(base::put_all(memory, 0, &swap::encode_pccc_string(given)))
+}
+
+fn swapped(given: &[u8], memory: &mut [u8]) -> Told {
+    match swap::slc_string_swap(given, memory) {
+        Swapped::Refused(k) => Told::Refused(k),
+        Swapped::Written(n) => Told::Bytes(n),
+    }
+}
+
+fn pairs(given: &[u8], memory: &mut [u8]) -> Told {
+    let n = text::within(base::put_all(memory, 0, given), memory);
+    swap::swap_pairs(&mut memory[..n]);
+    Told::Bytes(n)
 }

@@ -1,84 +1,53 @@
 // Answers the lines of oracle/PROTOCOL.md: one request a line on standard input, one answer a line on standard output.
 ghost use Prim.Native.Nat.{_<_, _≤_};
 ghost use lib.ListN.{length};
-use decimal::Decimal;
 use libc::STDIN_FILENO;
+use protocol::Told;
 use say::Place;
 
-// Of the second memory for bytes of fields so many are for them; behind them stands the simulated processor.
-const SCRATCH: usize = 131072;
-
-// The answer to a line of a call, which has an output of at most `room` bytes or rows, where it has one.
-fn call(
-    line: &[u8],
-    room: usize,
-    space: &mut [u8],
-    more: &mut [u8],
-    out: &mut [u8],
-    p: Place,
-) -> Place {
+// The answer to a line of a call, which has an output of at most `room` bytes or rows, where it has one. `space` is for the bytes of fields,
+// `memory` for the answer; in `store` stands the simulated processor.
+fn call(line: &[u8], room: usize, space: &mut [u8], memory: &mut [u8], store: &mut [u8]) -> Told {
     let word = text::field(line, 0);
-    let m = text::within(SCRATCH, more);
-    if calls_sim::knows(word) {
-        return calls_sim::answer(word, line, space, &mut more[m..], out, p);
+    let a = calls_sim::answer(word, line, space, memory, store);
+    if !protocol::is_no_call(a) {
+        return a;
     }
-    if calls_processor::knows(word) {
-        return calls_processor::answer(word, line, room, space, &mut more[m..], out, p);
+    let b = calls_processor::answer(word, line, room, space, memory, store);
+    if !protocol::is_no_call(b) {
+        return b;
     }
-    other(word, line, room, space, &mut more[..m], out, p)
+    on_texts(word, line, room, space, memory)
 }
 
 // A call that asks no processor.
-fn other(
-    word: &[u8],
-    line: &[u8],
-    room: usize,
-    space: &mut [u8],
-    more: &mut [u8],
-    out: &mut [u8],
-    p: Place,
-) -> Place {
-    if calls_address::knows(word) {
-        return calls_address::answer(line, space, out, p);
+fn on_texts(word: &[u8], line: &[u8], room: usize, space: &mut [u8], memory: &mut [u8]) -> Told {
+    let a = calls_address::answer(word, line, space, memory);
+    if !protocol::is_no_call(a) {
+        return a;
     }
-    if calls_type::knows(word) {
-        return calls_type::answer(word, line, space, more, out, p);
+    let b = calls_type::answer(word, line, space, memory);
+    if !protocol::is_no_call(b) {
+        return b;
     }
-    if calls_element::knows(word) {
-        return calls_element::answer(word, line, room, space, more, out, p);
+    let c = calls_element::answer(word, line, room, space, memory);
+    if !protocol::is_no_call(c) {
+        return c;
     }
-    if calls_request::knows(word) {
-        return calls_request::answer(word, line, room, space, more, out, p);
-    }
-    if calls_reply::knows(word) {
-        return calls_reply::answer(word, line, room, space, out, p);
-    }
-    if calls_directory::knows(word) {
-        return calls_directory::answer(word, line, room, space, more, out, p);
-    }
-    say::error(out, p, b"call")
+    on_messages(word, line, room, space, memory)
 }
 
-// `room ROOM CALL ..`
-fn in_room(line: &[u8], space: &mut [u8], more: &mut [u8], out: &mut [u8], p: Place) -> Place {
-    if text::fields(line) < 3 {
-        return say::error(out, p, b"fields");
+fn on_messages(word: &[u8], line: &[u8], room: usize, space: &mut [u8], memory: &mut [u8]) -> Told {
+    let n = text::within(room, memory);
+    let a = calls_request::answer(word, line, space, &mut memory[..n]);
+    if !protocol::is_no_call(a) {
+        return a;
     }
-    let digits = text::field(line, 1);
-    let Decimal::Is(room) = decimal::number(digits) else {
-        return say::error(out, p, b"number");
-    };
-    let n = text::within(digits.len(), line);
-    let m = text::within(6 + n, line);
-    call(&line[m..], room as usize, space, more, out, p)
-}
-
-// The answer to a line that is no comment.
-fn reply(line: &[u8], space: &mut [u8], more: &mut [u8], out: &mut [u8], p: Place) -> Place {
-    if text::is(text::field(line, 0), b"room") {
-        return in_room(line, space, more, out, p);
+    let b = calls_reply::answer(word, line, room, space, memory);
+    if !protocol::is_no_call(b) {
+        return b;
     }
-    call(line, 65535, space, more, out, p)
+    calls_directory::answer(word, line, space, memory)
 }
 
 // Empty lines and lines that begin with `#` are echoed.
@@ -89,25 +58,51 @@ fn is_echoed(line: &[u8]) -> bool {
     line[0] == b'#'
 }
 
+fn echo(line: &[u8], out: &mut [u8], p: Place) -> Place {
+    let q = say::plain(out, p, line);
+    say::plain(out, q, b"\n")
+}
+
+// The answer to a line that is no comment.
+fn reply(
+    line: &[u8],
+    space: &mut [u8],
+    memory: &mut [u8],
+    store: &mut [u8],
+    out: &mut [u8],
+    p: Place,
+) -> Place {
+    let r = protocol::room_of(line);
+    if r.why != 0 {
+        return protocol::say_told(Told::Error(r.why), memory, out, p);
+    }
+    let n = text::within(r.from, line);
+    let rest = &line[n..];
+    if text::is(text::field(rest, 0), b"dir") {
+        return calls_directory::say_dir(rest, r.room, space, out, p);
+    }
+    let told = call(rest, r.room, space, memory, store);
+    protocol::say_told(told, memory, out, p)
+}
+
 // The answer to a line, which is the first `kept` bytes; where it fills the memory that lines have, it was longer than a line may be.
 fn answer_line(
     line: &[u8],
     kept: usize,
     space: &mut [u8],
-    more: &mut [u8],
+    memory: &mut [u8],
+    store: &mut [u8],
     out: &mut [u8],
     p: Place,
 ) -> Place {
     if line.len() <= kept {
-        return say::error(out, p, b"line");
+        return protocol::say_told(Told::Error(protocol::LINE), memory, out, p);
     }
     let n = text::within(kept, line);
-    let text = &line[..n];
-    if is_echoed(text) {
-        let q = say::plain(out, p, text);
-        return say::plain(out, q, b"\n");
+    if is_echoed(&line[..n]) {
+        return echo(&line[..n], out, p);
     }
-    reply(text, space, more, out, p)
+    reply(&line[..n], space, memory, store, out, p)
 }
 
 // The place in the input, how many bytes of the line are kept, and whether the line has ended.
@@ -165,7 +160,8 @@ fn ended(
     line: &[u8],
     t: Taken,
     space: &mut [u8],
-    more: &mut [u8],
+    memory: &mut [u8],
+    store: &mut [u8],
     out: &mut [u8],
     p: Place,
 ) -> State
@@ -180,7 +176,7 @@ fn ended(
     }
     State {
         kept: 0,
-        said: answer_line(line, t.kept, space, more, out, p),
+        said: answer_line(line, t.kept, space, memory, store, out, p),
     }
 }
 
@@ -190,7 +186,8 @@ fn answer_all(
     line: &mut [u8],
     s: State,
     space: &mut [u8],
-    more: &mut [u8],
+    memory: &mut [u8],
+    store: &mut [u8],
     out: &mut [u8],
 ) -> State
     requires { ⌜ s .kept ≤ length (now line) ⌝ }
@@ -201,7 +198,7 @@ fn answer_all(
     while at < input.len() {
         let t = take_line(input, at, line, state.kept);
         at = t.at;
-        state = ended(line, t, space, more, out, state.said);
+        state = ended(line, t, space, memory, store, out, state.said);
     }
     state
 }
@@ -211,13 +208,14 @@ struct Went {
     open: bool,
 }
 
-// Reads once, answers, and writes out what was said.
+// Reads once, answers, and writes out what was said; at the end of input the last line is answered.
 fn turn(
     input: &mut [u8],
     line: &mut [u8],
     s: State,
     space: &mut [u8],
-    more: &mut [u8],
+    memory: &mut [u8],
+    store: &mut [u8],
     out: &mut [u8],
 ) -> Went
     requires { ⌜ s .kept ≤ length (now line) ⌝ }
@@ -226,12 +224,13 @@ fn turn(
     let got = libc::read(STDIN_FILENO, input);
     let n = io::count(got, input);
     if n == 0 {
+        finish(line, s, space, memory, store, out);
         return Went {
             state: s,
             open: false,
         };
     }
-    let t = answer_all(&input[..n], line, s, space, more, out);
+    let t = answer_all(&input[..n], line, s, space, memory, store, out);
     let q = say::flush(out, t.said);
     Went {
         state: State {
@@ -243,11 +242,18 @@ fn turn(
 }
 
 // The last line, where it has no newline.
-fn finish(line: &[u8], s: State, space: &mut [u8], more: &mut [u8], out: &mut [u8]) {
+fn finish(
+    line: &[u8],
+    s: State,
+    space: &mut [u8],
+    memory: &mut [u8],
+    store: &mut [u8],
+    out: &mut [u8],
+) {
     if s.kept == 0 {
         return;
     }
-    let q = answer_line(line, s.kept, space, more, out, s.said);
+    let q = answer_line(line, s.kept, space, memory, store, out, s.said);
     say::flush(out, q);
 }
 
@@ -255,7 +261,8 @@ fn answer_input(
     input: &mut [u8],
     line: &mut [u8],
     space: &mut [u8],
-    more: &mut [u8],
+    memory: &mut [u8],
+    store: &mut [u8],
     out: &mut [u8],
 ) {
     let mut s = State {
@@ -264,10 +271,9 @@ fn answer_input(
     };
     let mut turns = u64::MAX;
     while turns > 0 {
-        let after = turn(input, line, s, space, more, out);
+        let after = turn(input, line, s, space, memory, store, out);
         s = after.state;
         if !after.open {
-            finish(line, s, space, more, out);
             return;
         }
         turns -= 1;
@@ -277,8 +283,17 @@ fn answer_input(
 fn main() {
     let mut input = io::large_buffer();
     let mut line = [0u8; 262145];
+    // The bytes of the fields of a line.
     let mut space = [0u8; 131072];
-    let mut more = [0u8; 214920];
+    let mut memory = [0u8; 262144];
+    let mut store = [0u8; 83848];
     let mut out = [0u8; 65536];
-    answer_input(&mut input, &mut line, &mut space, &mut more, &mut out);
+    answer_input(
+        &mut input,
+        &mut line,
+        &mut space,
+        &mut memory,
+        &mut store,
+        &mut out,
+    );
 }

@@ -1,6 +1,4 @@
-pub mod Replying
+pub mod Access
 pub mod Logs
 pub mod Obeying
-pub mod Listing
-pub mod Questions
-pub mod Right
+pub mod Responding

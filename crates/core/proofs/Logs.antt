@@ -1,7 +1,7 @@
 -- The oldest datalog entry.
 use Prim.Native.Nat.{ℕ, suc, _+_, _-_, _≤_, _<_, _^_}
 use mathlib.Core.Path.{_≡_, refl, sym, ap, subst, _∙_}
-use mathlib.Core.Bool.{Bool, true, _&&_}
+use mathlib.Core.Bool.{true, _&&_}
 use mathlib.Core.List.{List, [], _∷_}
 use native.Mathlib.Omega.{arith}
 use borrow.Author.Tests.{leb-true}
@@ -18,7 +18,7 @@ use Rattle.model.specs.State.{every, goodLog}
 use Rattle.model.specs.Step.{Step, replied, takes, popped}
 use Rattle.model.proofs.Tests.{and-l, and-r}
 use Rattle.soundness.specs.Sound.{goodLogBy}
-use Rattle.core.specs.Steps.{Answers, tells, popStep}
+use Rattle.questions.specs.Steps.{Answers, tells, popStep}
 
 -- the first of some entries
 first-fits : (k : ℕ) (log : List ℕ) → (holds (suc k) log && goodLog (entries (suc k) log)) ≡ true → (entryRoom log ≤ length log) × (entryRoom log ≤ 257)

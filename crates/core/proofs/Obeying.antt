@@ -1,29 +1,21 @@
 -- What a command does, by what is wanted.
-use Prim.Native.Nat.{ℕ, _≤_, _<_}
+use Prim.Native.Nat.{ℕ}
 use mathlib.Core.Path.{_≡_, refl, sym, subst, _∙_}
-use mathlib.Core.Bool.{Bool, true, false, not, _&&_}
 use mathlib.Core.List.{List, [], _∷_}
 use mathlib.Core.Option.{Option, none, some}
-use borrow.Author.Tests.{le-leb, lt-leb, not-true, not-false}
-use lib.Dec.{leb}
-use lib.ListN.{length, take, drop}
-use Rattle.model.specs.declared.Answered.the-variants as answered
+use lib.ListN.{drop}
 use Rattle.model.specs.declared.Done.{Done}
 use Rattle.model.specs.declared.Slc.{Slc}
-use Rattle.model.specs.Frame.{wellFormed}
-use Rattle.model.specs.Pccc.{answeredOf, replyLeft, memoryLeft, slcLeft, Left, left, leftBy}
-use Rattle.model.specs.Plain.{entries, holds}
-use Rattle.model.specs.State.{goodText, goodLog}
-use Rattle.model.specs.Step.{Step, refuse, popped}
-use Rattle.model.proofs.Tests.{and-r}
+use Rattle.model.specs.Pccc.{memoryLeft, slcLeft, left, leftBy}
+use Rattle.model.specs.Plain.{entries}
+use Rattle.model.specs.Step.{popped}
 use Rattle.query.specs.declared.Query.{Query}
 use Rattle.query.specs.declared.Wants.{Wants}
 use Rattle.query.specs.declared.Wants.the-variants as wants
 use Rattle.table.specs.declared.Seen.{Seen}
-use Rattle.core.specs.Calls.{respondOf}
-use Rattle.core.specs.Steps.{Answers, tells, tellsBad, statusStep, popStep, readAt, readStep, writeAt, writeStep, valuesOf, obeyStep}
+use Rattle.questions.specs.Steps.{Answers, tells, tellsBad, statusStep, popStep, readAt, readStep, writeAt, writeStep, valuesOf, obeyStep}
 use Rattle.located.specs.Locate.{locateBy}
-use Rattle.core.proofs.Replying.{answers-left, kept}
+use Rattle.questions.proofs.Replying.{answers-left, kept}
 
 -- ---- by what is wanted
 module _ (slc : Slc) (s : Seen) (q : Query) (m log c reply reply′ : List ℕ) (r : Done) where

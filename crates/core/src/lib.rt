@@ -1,10 +1,9 @@
-// The covered core of `Slc::pccc`: the questions 16 to 18, and what a command does. What the command says and what the file table holds are
-// told by value.
+// The covered core of `Slc::pccc`: what a command does that doesn't ask for the directory. What the command says and what the file table holds
+// are told by value.
 use located::Place;
 use model::Answered;
 use model::Done;
 use model::Slc;
-use query::Layout;
 use query::Query;
 use query::Wants;
 use table::Seen;
@@ -12,15 +11,12 @@ ghost use mathlib.Core.Path.{_≡_};
 ghost use mathlib.Core.Bool.{true};
 ghost use mathlib.Core.List.{[]};
 ghost use Prim.Native.Nat.{_≤_};
-ghost use lib.ListN.{length, take, drop};
+ghost use lib.ListN.{length};
 ghost use Rattle.model.specs.Frame.{wellFormed};
 ghost use Rattle.model.specs.Pccc.{left, leftBy};
-ghost use Rattle.soundness.specs.Sound.{goodLogBy, soundBy};
-ghost use Rattle.core.specs.Steps.{Answers, tells, tellsBad, statusStep, popStep, readStep, writeStep, obeyStep, sizeAsked, directoryLength, sizeBytes, directoryStep};
-ghost use Rattle.core.specs.Calls.{questionOf, respondOf, showOf};
-
-// What the reply memory must hold.
-const ROOM: usize = 514;
+ghost use Rattle.soundness.specs.Sound.{goodLogBy};
+ghost use Rattle.questions.specs.Steps.{Answers, tells, tellsBad, statusStep, popStep, readStep, writeStep, obeyStep};
+ghost use Rattle.questions.specs.Calls.{respondOf};
 
 // A reply.
 fn answer(slc: Slc, command: &[u8], status: u8, bytes: &[u8], reply: &mut [u8]) -> Done
@@ -146,22 +142,6 @@ fn obey(
     }
 }
 
-// The number of the first question that is answered with no, 0 where none is.
-fn question(slc: Slc, s: Seen, memory: usize, log: &[u8], room: usize, command: &[u8]) -> u8
-    ensures { λ r. ⌜ r ≡ questionOf (soundBy slc s memory (now (log .entry))) room (now (command .entry)) ⌝ }
-{
-    if !soundness::sound(slc, s, memory, log) {
-        return 16;
-    }
-    if room < ROOM {
-        return 17;
-    }
-    if !framed::well_formed(command) {
-        return 18;
-    }
-    0
-}
-
 // The call, where the directory isn't asked for.
 pub fn respond(
     slc: Slc,
@@ -174,7 +154,7 @@ pub fn respond(
 ) -> Done
     ensures { λ r. ⌜ left r (now (memory .exit)) (now (reply .exit)) ≡ respondOf slc s q (now (memory .entry)) (now (log .entry)) (now (command .entry)) (now (reply .entry)) ⌝ }
 {
-    let refusal = question(slc, s, memory.len(), log, reply.len(), command);
+    let refusal = questions::question(slc, s, memory.len(), log, reply.len(), command);
     if refusal != 0 {
         return Done {
             slc,
@@ -182,86 +162,4 @@ pub fn respond(
         };
     }
     obey(slc, s, q, memory, log, command, reply)
-}
-
-// The directory's length.
-fn directory_length(s: Seen, l: Layout) -> usize
-    ensures { λ r. ⌜ (r ≡ directoryLength s l) × (r ≤ 16711680) ⌝ }
-{
-    (l.first as usize) + (s.next as usize) * (l.row as usize)
-}
-
-// Is the size element asked for, with size 2 to 8?
-fn size_asked(q: Query, l: Layout) -> bool
-    ensures { λ r. ⌜ r ≡ sizeAsked q l ⌝ }
-{
-    if q.element != (l.size_element as u16) {
-        return false;
-    }
-    if q.size < 2 {
-        return false;
-    }
-    q.size <= 8
-}
-
-// The directory's length as a word, zero-padded.
-fn tell_size(slc: Slc, n: usize, size: u8, command: &[u8], reply: &mut [u8]) -> Done
-    requires { ⌜ wellFormed (now command) ≡ true ⌝ }
-    requires { ⌜ (2 ≤ size) × (size ≤ 8) ⌝ }
-    requires { ⌜ 514 ≤ length (now reply) ⌝ }
-    ensures { λ r. ⌜ Answers (tells (now (command .entry)) 0 (sizeBytes n size)) slc [] (now (reply .entry)) r (now (reply .exit)) ⌝ }
-{
-    let k = size as usize;
-    let word = [(n % 256) as u8, (n / 256 % 256) as u8, 0, 0, 0, 0, 0, 0];
-    answer(slc, command, 0, &word[..k], reply)
-}
-
-// What a command for the directory does; `d` begins with the directory.
-fn list(slc: Slc, s: Seen, q: Query, d: &[u8], command: &[u8], reply: &mut [u8]) -> Done
-    requires { ⌜ wellFormed (now command) ≡ true ⌝ }
-    requires { ⌜ 514 ≤ length (now reply) ⌝ }
-    ensures { λ r. ⌜ Answers (directoryStep s q (now (d .entry)) (now (command .entry))) slc [] (now (reply .entry)) r (now (reply .exit)) ⌝ }
-{
-    let l = q.layout;
-    if q.code != l.code {
-        return bad(slc, command, reply);
-    }
-    let n = directory_length(s, l);
-    if size_asked(q, l) {
-        return tell_size(slc, n + (l.constant as usize), q.size, command, reply);
-    }
-    let from = 2 * (q.element as usize);
-    if n < from + (q.size as usize) {
-        return bad(slc, command, reply);
-    }
-    answer(
-        slc,
-        command,
-        0,
-        located::part(d, from, q.size as usize),
-        reply,
-    )
-}
-
-// The call, where the directory is asked for.
-pub fn show(
-    slc: Slc,
-    s: Seen,
-    q: Query,
-    d: [u8; 2793],
-    memory: &mut [u8],
-    log: &[u8],
-    command: &[u8],
-    reply: &mut [u8],
-) -> Done
-    ensures { λ r. ⌜ left r (now (memory .exit)) (now (reply .exit)) ≡ showOf slc s q d (now (memory .entry)) (now (log .entry)) (now (command .entry)) (now (reply .entry)) ⌝ }
-{
-    let refusal = question(slc, s, memory.len(), log, reply.len(), command);
-    if refusal != 0 {
-        return Done {
-            slc,
-            answered: Answered::Refused(refusal),
-        };
-    }
-    list(slc, s, q, &d, command, reply)
 }

@@ -25,9 +25,9 @@ use Rattle.swap.specs.Text.{swapPairs}
 use Rattle.swap.proofs.Swap.{swap-length}
 use Rattle.decode.specs.declared.Element.{Element}
 use Rattle.decode.specs.declared.Element.the-variants as element
-use Rattle.encode.specs.declared.kind.Kind.{Kind}
-use Rattle.encode.specs.declared.kind.Kind.the-variants as kind
-use Rattle.encode.specs.Encode.{kindOf}
+use Rattle.values.specs.declared.kind.Kind.{Kind}
+use Rattle.values.specs.declared.kind.Kind.the-variants as kind
+use Rattle.values.specs.Encode.{kindOf}
 use Rattle.decode.specs.Decode.{namedBits, Says, refuses, textIn, wordAt, decodeAs, decoded, elementOf, textLeft, Reads}
 use Rattle.whole.specs.Whole.{signed}
 

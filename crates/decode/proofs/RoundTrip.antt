@@ -13,7 +13,7 @@ use Rattle.base.specs.Put.{put}
 use Rattle.base.proofs.Numbers.{low-length, read-back}
 use Rattle.base.proofs.Put.{put-first}
 use Rattle.whole.specs.Whole.{inRange, twos, signed}
-use Rattle.encode.specs.declared.kind.Kind.the-variants as kind
+use Rattle.values.specs.declared.kind.Kind.the-variants as kind
 use Rattle.file_type.specs.declared.FileType.{FileType}
 use Rattle.decode.specs.Decode.{decodeAs, whole}
 

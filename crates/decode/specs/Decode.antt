@@ -8,9 +8,9 @@ use lib.IntN.{ℤ}
 use lib.ListN.{length, take, drop}
 use Rattle.base.specs.Numbers.{number}
 use Rattle.base.specs.Put.{put}
-use Rattle.encode.specs.declared.kind.Kind.{Kind}
-use Rattle.encode.specs.declared.kind.Kind.the-variants as kind
-use Rattle.encode.specs.Encode.{kindOf}
+use Rattle.values.specs.declared.kind.Kind.{Kind}
+use Rattle.values.specs.declared.kind.Kind.the-variants as kind
+use Rattle.values.specs.Encode.{kindOf}
 use Rattle.file_type.specs.declared.FileType.{FileType}
 use Rattle.file_type.specs.Table.{row, bitNames}
 use Rattle.swap.specs.Text.{swapPairs}

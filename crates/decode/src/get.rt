@@ -31,7 +31,7 @@ pub fn float(element: &[u8]) -> Element
 fn named_bits(t: FileType, w: u16) -> u16
     ensures { λ r. ⌜ r ≡ namedBits t w ⌝ }
 {
-    let unnamed = 16 - t.bits();
+    let unnamed = 16 - fields::bits(t);
     let low = (w as u32) % (1u32 << unnamed);
     w - (low as u16)
 }

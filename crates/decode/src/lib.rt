@@ -3,8 +3,8 @@ mod get;
 
 ghost use lib.ListN.{length};
 ghost use Rattle.decode.specs.Decode.{Reads, decoded};
-use encode::kind::Kind;
 use file_type::FileType;
+use values::kind::Kind;
 
 // What reading an element answers. Text stands in the lent memory, so many bytes of it. Fields: words 1 and 2 of T, C and R,
 // and word 0 with the bits that have no name cleared.
@@ -23,7 +23,7 @@ pub fn decode_element(t: FileType, element: &[u8], text: &mut [u8]) -> Element
     if element.len() < t.element_size() {
         return Element::Refused(19);
     }
-    let k = encode::kind::kind_of(t);
+    let k = values::kind::kind_of(t);
     match k {
         Kind::Word => get::word(element),
         Kind::Long => get::long(element),

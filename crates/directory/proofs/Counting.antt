@@ -10,10 +10,11 @@ use Rattle.file_type.specs.declared.FileType.{FileType}
 use Rattle.file_type.specs.Table.{ofCode}
 use Rattle.directory.specs.declared.rows.Counted.{Counted}
 use Rattle.directory.specs.declared.rows.Counted.the-variants as counted
-use Rattle.directory.specs.declared.rows.Row.{Row}
-use Rattle.directory.specs.declared.rows.Row.the-variants as row·
+use Rattle.directory_row.specs.declared.Row.{Row}
+use Rattle.directory_row.specs.declared.Row.the-variants as row·
+use Rattle.directory_row.specs.Row.{rowOf, numberOf}
 use Rattle.directory.specs.Passes.{countFrom}
-use Rattle.directory.specs.Rows.{rowOf, rows, anyCut, filesFrom, numberOf}
+use Rattle.directory.specs.Rows.{rows, anyCut, filesFrom}
 use Rattle.directory.proofs.RowLaws.{rows-end, rows-next, saturated}
 
 -- ---- a row

@@ -1,58 +1,29 @@
 -- Laws of the second pass.
 use Prim.Native.Nat.{ℕ, suc, _+_, _-_, _/_, _≤_, _<_, min}
-use mathlib.Core.Path.{_≡_, refl, ap, sym, subst, _∙_}
+use mathlib.Core.Path.{_≡_, refl, ap, sym, _∙_}
 use mathlib.Core.Bool.{Bool, true, false, _&&_, cond}
 use mathlib.Core.List.{List, [], _∷_, _++_, append-assoc}
-use native.Mathlib.Nat.{add-zero, div-le-self}
+use native.Mathlib.Nat.{add-zero}
 use native.Mathlib.Numerals.{add-one}
 use native.Mathlib.Omega.{arith}
-use borrow.Author.Tests.{eq-eqb, ne-eqb, leb-true, leb-false}
-use lib.Dec.{eqb, leb, lit<}
+use borrow.Author.Tests.{leb-true, leb-false}
+use lib.Dec.{eqb, leb}
 use lib.ListN.{length, take, drop, getD, set, length-set, take-append-drop}
 use lib.Seq.{take-suc-set, drop-set-lt}
-use mir.Syntax.{w16, w32}
+use mir.Syntax.{w32}
 use mir.Val.{Fits}
 use Rattle.file_type.specs.declared.FileType.{FileType}
-use Rattle.file_type.specs.declared.FileType.the-variants.{O, I, S, B, T, C, R, N, F, ST, A, L, MG, PD, PLS}
 use Rattle.file_type.specs.Table.{row, ofCode}
-use Rattle.directory.specs.declared.rows.Row.{Row}
-use Rattle.directory.specs.declared.rows.Row.the-variants as row·
+use Rattle.directory_row.specs.declared.Row.{Row}
+use Rattle.directory_row.specs.declared.Row.the-variants as row·
+use Rattle.directory_row.specs.Row.{rowOf, numberOf}
 use Rattle.directory.specs.declared.rows.Turn.{Turn}
 use Rattle.directory.specs.Passes.{lay, Turned}
-use Rattle.directory.specs.Rows.{rowOf, rows, numberOf, filesFrom}
+use Rattle.directory.specs.Rows.{rows, filesFrom}
 use Rattle.directory.proofs.RowLaws.{rows-end, rows-next, saturated}
 
--- ---- a file's fields
-pub some-size : (t : FileType) (n : ℕ) → n ≡ row t .size → 0 < n
-some-size t n e = subst (λ (k : ℕ). 0 < k) (sym e) (go t)
-  where
-    go : (t : FileType) → 0 < row t .size
-    go O = lit< tt
-    go I = lit< tt
-    go S = lit< tt
-    go B = lit< tt
-    go T = lit< tt
-    go C = lit< tt
-    go R = lit< tt
-    go N = lit< tt
-    go F = lit< tt
-    go ST = lit< tt
-    go A = lit< tt
-    go L = lit< tt
-    go MG = lit< tt
-    go PD = lit< tt
-    go PLS = lit< tt
-
+-- ---- the number of a file
 module _ (t : FileType) (n : ℕ) where
-  pub number-kept : (n ≡ 0 → ⊥) → n ≡ numberOf t n
-  number-kept h = rw (ne-eqb _ _ h)
-
-  pub number-one : (c : ℕ) → n ≡ 0 → c ≡ row t .code → c ≡ 0x83 → 1 ≡ numberOf t n
-  number-one c h e f = rw (eq-eqb _ _ h, eq-eqb _ _ (sym e ∙ f))
-
-  pub number-zero : (c : ℕ) → n ≡ 0 → c ≡ row t .code → (c ≡ 0x83 → ⊥) → n ≡ numberOf t n
-  number-zero c h e f = rw (eq-eqb _ _ h, ne-eqb (row t .code) 0x83 (λ (g : row t .code ≡ 0x83). f (e ∙ g)))
-
   number-most : (k : ℕ) → n ≤ k + 1 → numberOf t n ≤ k + 1
   number-most k h = go (eqb n 0 && eqb (row t .code) 0x83)
     where
@@ -62,12 +33,6 @@ module _ (t : FileType) (n : ℕ) where
 
   pub number-fits : (m : ℕ) → m ≡ numberOf t n → n ≤ 65536 → Fits w32 (m + 1)
   number-fits m e h = record { fits = omega (arith, number-most 65536 (omega arith)) }
-
-pub elements-fit : (n k : ℕ) → Fits w16 n → Fits w32 (n / k)
-elements-fit n k f = record { fits = omega (arith, f .fits, div-le-self n k) }
-
-pub elements-are : (t : FileType) (n k : ℕ) → k ≡ row t .size → n / k ≡ n / row t .size
-elements-are t n k e = rw e
 
 -- ---- files laid over a memory
 pub lay-none : (l : List (List ℕ)) (at : ℕ) → lay l at [] ≡ l

@@ -2,5 +2,4 @@ pub mod Counting
 pub mod Laying
 pub mod Listing
 pub mod RowLaws
-pub mod Sizes
 pub mod Worked

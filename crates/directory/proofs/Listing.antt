@@ -12,7 +12,7 @@ use Rattle.directory.specs.declared.rows.Counted.{Counted}
 use Rattle.directory.specs.declared.rows.Counted.the-variants as counted
 use Rattle.directory.specs.declared.Listed.{Listed}
 use Rattle.directory.specs.declared.Listed.the-variants as listed·
-use Rattle.directory.specs.declared.rows.Row.{Row}
+use Rattle.directory_row.specs.declared.Row.{Row}
 use Rattle.directory.specs.Passes.{countFrom, lay}
 use Rattle.directory.specs.Rows.{rows, anyCut, filesFrom, within, listedIn, listed, Lists}
 use Rattle.directory.proofs.Counting.{count-is}

@@ -1,40 +1,23 @@
 -- Laws of rows, one for each step of the code.
-use Prim.Native.Nat.{ℕ, zero, suc, _+_, _-_, _≤_, _<_, min}
+use Prim.Native.Nat.{ℕ, zero, suc, _+_, _≤_, _<_, min}
 use mathlib.Core.Path.{_≡_, refl, ap, sym, _∙_}
 use mathlib.Core.Bool.{Bool, true, false}
 use mathlib.Core.List.{List, [], _∷_}
 use native.Mathlib.Omega.{arith}
-use borrow.Author.Tests.{lt-ltb, le-ltb, eq-eqb, ne-eqb, leb-true, leb-false}
-use lib.Dec.{ltb, leb, eqb}
-use lib.ListN.{length, take, drop, getD, length-drop, drop-of-length-le}
+use borrow.Author.Tests.{leb-true, leb-false}
+use lib.Dec.{leb}
+use lib.ListN.{length, drop, getD, length-drop, drop-of-length-le}
 use lib.Seq.{drop-drop}
-use Rattle.base.specs.Numbers.{number}
 use Rattle.base.proofs.Parts.{drop-next}
 use Rattle.file_type.specs.declared.FileType.{FileType}
 use Rattle.file_type.specs.declared.Known.{Known}
 use Rattle.file_type.specs.declared.Known.the-variants as known
 use Rattle.file_type.specs.Table.{ofCode}
-use Rattle.directory.specs.declared.rows.Row.{Row}
-use Rattle.directory.specs.declared.rows.Row.the-variants as row·
-use Rattle.directory.specs.Rows.{fileRow, otherRow, rowOf, rowsIn, rows}
+use Rattle.directory_row.specs.declared.Row.{Row}
+use Rattle.directory_row.specs.Row.{fileRow, otherRow, rowOf}
+use Rattle.directory.specs.Rows.{rowsIn, rows}
 
 -- ---- one row
-module _ (t : FileType) (s : List ℕ) (at : ℕ) where
-  pub cut-past : length s < at → row·.Cut ≡ fileRow t (drop at s)
-  cut-past h = let e : length (drop at s) < 2 = simp length-drop (omega arith) in rw (lt-ltb _ _ e)
-
-  pub cut-short : length s - at < 2 → row·.Cut ≡ fileRow t (drop at s)
-  cut-short h = let e : length (drop at s) < 2 = simp length-drop (omega arith) in rw (lt-ltb _ _ e)
-
-  pub file-there : (n : ℕ) → 2 ≤ length s - at → n ≡ number (take 2 (drop at s)) → row·.File t n ≡ fileRow t (drop at s)
-  file-there n h e = let g : 2 ≤ length (drop at s) = simp length-drop (omega arith) in rw (le-ltb _ _ g, e)
-
-pub is-reserved : (code : ℕ) → code ≡ 0x81 → row·.Reserved ≡ otherRow code
-is-reserved code e = rw (eq-eqb _ _ e)
-
-pub is-other : (code : ℕ) → (code ≡ 0x81 → ⊥) → row·.Other ≡ otherRow code
-is-other code e = rw (ne-eqb _ _ e)
-
 module _ (code : ℕ) (behind : List ℕ) (r : Row) (k : Known) (e : k ≡ ofCode code) where
   pub row-known : (t : FileType) → k ≡ known.Is t → r ≡ fileRow t behind → r ≡ rowOf (ofCode code) code behind
   row-known t f g = g ∙ ap (λ (x : Known). rowOf x code behind) (sym f ∙ e)

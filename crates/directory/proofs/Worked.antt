@@ -2,13 +2,10 @@
 use Prim.Native.Nat.{ℕ}
 use mathlib.Core.Path.{_≡_, refl}
 use mathlib.Core.List.{List, [], _∷_, _++_}
-use lib.IntN.{pos, negsuc}
 use lib.ListN.{replicate}
 use Rattle.base.specs.Numbers.{number}
 use Rattle.file_type.specs.Table.{first, ofCode}
-use Rattle.directory.specs.declared.DirectorySize.the-variants as size
 use Rattle.directory.specs.Rows.{rowsIn, rows, anyCut, filesFrom, refuses, lists, listed}
-use Rattle.directory.specs.Size.{sizeOf}
 
 -- O of 4 bytes, I of 6, a free number, an unknown code, T of 12
 abbrev some : List ℕ
@@ -33,12 +30,3 @@ directories = refl
 pub lengths : (listed 0 0 (replicate 65536 0) 0 ∷ listed 0 0 (replicate 65535 0) 0 ∷ []) ≡ (refuses 7 ∷ refuses 8 ∷ [])
 unfolding listed
 lengths = refl
-
--- a reply that has these bytes from byte 61 on
-abbrev from61 : List ℕ → List ℕ
-from61 s = replicate 61 0 ++ s
-
-pub sizes : (sizeOf (from61 (0x43 ∷ 0x4F ∷ [])) 19968 ∷ sizeOf (from61 (0xA9 ∷ 0x00 ∷ 0x07 ∷ [])) 0 ∷ sizeOf (from61 (0xA9 ∷ 0x00 ∷ [])) 19968 ∷ sizeOf (from61 (0xA9 ∷ [])) 0 ∷ [])
-    ≡ (size.Bytes (pos 323) ∷ size.Bytes (pos 169) ∷ size.Bytes (negsuc 19798) ∷ size.Refused 25 ∷ [])
-unfolding sizeOf number
-sizes = refl

@@ -5,8 +5,8 @@ use mathlib.Core.List.{List, [], _∷_, _++_}
 use lib.ListN.{length, take, drop}
 use Rattle.directory.specs.declared.rows.Counted.{Counted}
 use Rattle.directory.specs.declared.rows.Counted.the-variants as counted
-use Rattle.directory.specs.declared.rows.Row.{Row}
-use Rattle.directory.specs.declared.rows.Row.the-variants as row·
+use Rattle.directory_row.specs.declared.Row.{Row}
+use Rattle.directory_row.specs.declared.Row.the-variants as row·
 use Rattle.directory.specs.declared.rows.Turn.{Turn}
 use Rattle.directory.specs.Rows.{filesFrom}
 

@@ -1,34 +1,16 @@
 -- The rows of a file directory and the files that they name (document 01, "Directory rows", "Traps" and module 5).
-use Prim.Native.Nat.{ℕ, zero, suc, _+_, _/_}
+use Prim.Native.Nat.{ℕ, zero, suc, _+_}
 use mathlib.Core.Path.{_≡_}
-use mathlib.Core.Bool.{Bool, true, false, _&&_, cond}
+use mathlib.Core.Bool.{Bool, true, false, cond}
 use mathlib.Core.List.{List, [], _∷_, _++_}
 use lib.Dec.{eqb, ltb}
-use lib.ListN.{length, take, drop}
-use Rattle.base.specs.Numbers.{number}
-use Rattle.file_type.specs.declared.FileType.{FileType}
-use Rattle.file_type.specs.declared.FileType.the-variants.{I}
-use Rattle.file_type.specs.declared.Known.{Known}
-use Rattle.file_type.specs.declared.Known.the-variants as known
-use Rattle.file_type.specs.Table.{row, ofCode}
+use lib.ListN.{length, drop}
+use Rattle.file_type.specs.Table.{ofCode}
+use Rattle.directory_row.specs.declared.Row.{Row}
+use Rattle.directory_row.specs.declared.Row.the-variants as row·
+use Rattle.directory_row.specs.Row.{rowOf, numberOf, entry}
 use Rattle.directory.specs.declared.Listed.{Listed}
 use Rattle.directory.specs.declared.Listed.the-variants as listed·
-use Rattle.directory.specs.declared.rows.Row.{Row}
-use Rattle.directory.specs.declared.rows.Row.the-variants as row·
-
--- (`Row` is what a row says: a file with its length, a file that is cut, a number that is kept free, or nothing that counts)
--- a known type code: a file and its length word; "Do two bytes follow every known type code met?"
-abbrev pub fileRow : FileType → List ℕ → Row
-fileRow t behind = cond (ltb (length behind) 2) row·.Cut (row·.File t (number (take 2 behind)))
-
--- "only known codes and 81 count"
-abbrev pub otherRow : ℕ → Row
-otherRow code = cond (eqb code 0x81) row·.Reserved row·.Other
-
--- what a code says with the bytes behind it
-abbrev pub rowOf : Known → ℕ → List ℕ → Row
-rowOf (known.Is t) code behind = fileRow t behind
-rowOf known.Unknown code behind = otherRow code
 
 -- a row at the first of these bytes, the next `size` bytes further on, as long as there are any; at most `most` rows
 unfoldable pub rowsIn : ℕ → ℕ → List ℕ → List Row
@@ -47,14 +29,6 @@ anyCut (row·.File t n ∷ rs) = anyCut rs
 anyCut (row·.Cut ∷ rs) = true
 anyCut (row·.Reserved ∷ rs) = anyCut rs
 anyCut (row·.Other ∷ rs) = anyCut rs
-
--- "an I row while the number is 0 becomes number 1"
-abbrev pub numberOf : FileType → ℕ → ℕ
-numberOf t n = cond (eqb n 0 && eqb (row t .code) (row I .code)) 1 n
-
--- "output per file: code, number, elements, length"
-abbrev pub entry : FileType → ℕ → ℕ → List ℕ
-entry t n bytes = row t .code ∷ n ∷ bytes / row t .size ∷ bytes ∷ []
 
 -- the files of rows of which none is cut, where the first row that counts is number n
 unfoldable pub filesFrom : ℕ → List Row → List (List ℕ)

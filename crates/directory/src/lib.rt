@@ -1,30 +1,11 @@
-// The file directory of a processor, client side: its size, and the data files that its rows name.
+// The file directory of a processor, client side: the data files that its rows name.
 mod rows;
 
 ghost use mathlib.Core.Path.{_≡_};
 ghost use Prim.Native.Nat.{_<_, _≤_};
 ghost use lib.ListN.{length};
 ghost use Rattle.directory.specs.Rows.{rows as Rows·rows, filesFrom, within, listed, Lists};
-ghost use Rattle.directory.specs.Size.{sizeOf};
 use rows::Counted;
-use sys0::Sys0Info;
-
-// The size of the directory in bytes, or the number of the question that was answered with no.
-pub enum DirectorySize {
-    Refused(u8),
-    Bytes(i32),
-}
-
-// The directory's size in a raw reply, less what the processor adds to it: it may be negative.
-pub fn parse_file_directory_size(raw: &[u8], info: Sys0Info) -> DirectorySize
-    ensures { λ r. ⌜ r ≡ sizeOf (now (raw .entry)) (info .«size_const») ⌝ }
-{
-    if raw.len() < 63 {
-        return DirectorySize::Refused(25);
-    }
-    let size = base::word_at(raw, 61) as i32;
-    DirectorySize::Bytes(size - (info.size_const as i32))
-}
 
 // How many files there are, or the number of the question that was answered with no.
 pub enum Listed {

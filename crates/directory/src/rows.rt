@@ -1,42 +1,15 @@
 // The rows of a file directory, in two passes: one judges them and counts the files, the other lays the files over the output.
 ghost use mathlib.Core.Path.{_≡_};
 ghost use mathlib.Core.List.{[], _∷_};
-ghost use Prim.Native.Nat.{_+_, _/_, _<_, _≤_, min};
+ghost use Prim.Native.Nat.{_+_, _<_, _≤_};
 ghost use lib.ListN.{length, drop, getD};
-ghost use Rattle.file_type.specs.Table.{ofCode, row as Table·row};
+ghost use Rattle.file_type.specs.Table.{ofCode};
+ghost use Rattle.directory_row.specs.Row.{rowOf};
 ghost use Rattle.directory.specs.Passes.{countFrom, lay, Turned};
-ghost use Rattle.directory.specs.Rows.{fileRow, otherRow, rowOf, rows, numberOf, filesFrom};
+ghost use Rattle.directory.specs.Rows.{rows, filesFrom};
+use directory_row::Row;
 use file_type::FileType;
 use file_type::Known;
-
-// What a row says: a file and its length, a file whose length is cut, a number that is kept free, or nothing.
-pub enum Row {
-    File(FileType, u16),
-    Cut,
-    Reserved,
-    Other,
-}
-
-fn file_row(bytes: &[u8], at: usize, t: FileType) -> Row
-    ensures { λ r. ⌜ r ≡ fileRow t (drop at (now (bytes .entry))) ⌝ }
-{
-    if bytes.len() < at {
-        return Row::Cut;
-    }
-    if bytes.len() - at < 2 {
-        return Row::Cut;
-    }
-    Row::File(t, base::word_at(bytes, at))
-}
-
-fn other_row(code: u8) -> Row
-    ensures { λ r. ⌜ r ≡ otherRow code ⌝ }
-{
-    if code == 0x81 {
-        return Row::Reserved;
-    }
-    Row::Other
-}
 
 fn row_at(bytes: &[u8], at: usize) -> Row
     requires { ⌜ at < length (now bytes) ⌝ }
@@ -45,19 +18,9 @@ fn row_at(bytes: &[u8], at: usize) -> Row
     let code = bytes[at];
     let known = FileType::from_code(code);
     match known {
-        Known::Is(t) => file_row(bytes, at + 1, t),
-        Known::Unknown => other_row(code),
+        Known::Is(t) => directory_row::file_row(bytes, at + 1, t),
+        Known::Unknown => directory_row::other_row(code),
     }
-}
-
-// The place of the next row; where that would be past all places, the last of them.
-fn further(at: usize, size: usize) -> usize
-    ensures { λ r. ⌜ r ≡ min (at + size) 18446744073709551615 ⌝ }
-{
-    if 18446744073709551615 - at < size {
-        return 18446744073709551615;
-    }
-    at + size
 }
 
 // How many files there are, unless a row is cut.
@@ -89,7 +52,7 @@ pub fn count_files(first: usize, size: usize, bytes: &[u8]) -> Counted
             return Counted::Cut;
         };
         n = m;
-        at = further(at, size);
+        at = directory_row::further(at, size);
     }
     Counted::Files(n)
 }
@@ -100,25 +63,6 @@ pub struct Turn {
     pub number: u32,
 }
 
-// The number of a file: I is file 1 where no row stands for file 0.
-fn number_of(t: FileType, number: u32) -> u32
-    ensures { λ r. ⌜ r ≡ numberOf t number ⌝ }
-{
-    if number != 0 {
-        return number;
-    }
-    if t.code() == 0x83 {
-        return 1;
-    }
-    number
-}
-
-fn elements(t: FileType, size: u16) -> u32
-    ensures { λ r. ⌜ r ≡ size / (Table·row t .size) ⌝ }
-{
-    ((size as usize) / t.element_size()) as u32
-}
-
 fn lay_row(out: &mut [[u32; 4]], p: Turn, row: Row) -> Turn
     requires { ⌜ (p .at < length (now out)) × (p .number ≤ 65536) ⌝ }
     ensures { λ r. ⌜ Turned (now (out .entry)) p row r (now (out .exit)) ⌝ }
@@ -127,8 +71,13 @@ fn lay_row(out: &mut [[u32; 4]], p: Turn, row: Row) -> Turn
     let number = p.number;
     match row {
         Row::File(t, size) => {
-            let n = number_of(t, number);
-            out[at] = [t.code() as u32, n, elements(t, size), size as u32];
+            let n = directory_row::number_of(t, number);
+            out[at] = [
+                t.code() as u32,
+                n,
+                directory_row::elements(t, size),
+                size as u32,
+            ];
             Turn {
                 at: at + 1,
                 number: n + 1,
@@ -152,6 +101,6 @@ pub fn lay_files(first: usize, size: usize, bytes: &[u8], n: usize, out: &mut [[
     let mut p = Turn { at: 0, number: 0 };
     while p.at < n {
         p = lay_row(out, p, row_at(bytes, place));
-        place = further(place, size);
+        place = directory_row::further(place, size);
     }
 }

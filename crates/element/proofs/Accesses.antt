@@ -15,10 +15,10 @@ use Rattle.base.proofs.Put.{put-none}
 use Rattle.decode.specs.declared.Element.{Element}
 use Rattle.decode.specs.declared.Element.the-variants as element
 use Rattle.decode.specs.Decode.{Says, Reads, decoded}
-use Rattle.encode.specs.declared.Stored.{Stored}
-use Rattle.encode.specs.declared.Stored.the-variants as stored
-use Rattle.encode.specs.declared.Value.{Value}
-use Rattle.encode.specs.Encode.{Stores, storedOf, encoded}
+use Rattle.values.specs.declared.Stored.{Stored}
+use Rattle.values.specs.declared.Stored.the-variants as stored
+use Rattle.values.specs.declared.Value.{Value}
+use Rattle.values.specs.Encode.{Stores, storedOf, encoded}
 use Rattle.file_type.specs.declared.FileType.{FileType}
 use Rattle.file_type.specs.Table.{row}
 use Rattle.model.specs.declared.Slc.{Slc}

@@ -7,7 +7,7 @@ use lib.Dec.{leb, eqb}
 use lib.ListN.{length}
 use Rattle.base.specs.Outcome.{Outcome, refused}
 use Rattle.decode.specs.Decode.{Says, refuses}
-use Rattle.encode.specs.declared.Value.{Value}
+use Rattle.values.specs.declared.Value.{Value}
 use Rattle.file_type.specs.declared.FileType.{FileType}
 use Rattle.file_type.specs.Table.{row}
 use Rattle.model.specs.declared.Slc.{Slc}

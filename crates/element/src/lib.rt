@@ -3,14 +3,14 @@ ghost use mathlib.Core.Path.{_≡_};
 ghost use Prim.Native.Nat.{_≤_};
 ghost use lib.ListN.{length};
 ghost use Rattle.decode.specs.Decode.{Reads};
-ghost use Rattle.encode.specs.Encode.{Stores};
+ghost use Rattle.values.specs.Encode.{Stores};
 ghost use Rattle.element.specs.Access.{placeOf, elementBy, readBy, setHere, setBy};
 use decode::Element;
-use encode::Stored;
-use encode::Value;
 use file_type::FileType;
 use model::Slc;
 use table::Seen;
+use values::Stored;
+use values::Value;
 
 // An element that is to be read: a file's number and type, and the place in it.
 pub struct Spot {

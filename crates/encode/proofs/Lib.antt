@@ -1,3 +1,1 @@
-pub mod ByKind
-pub mod Rows
 pub mod Setting

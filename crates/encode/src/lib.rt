@@ -1,25 +1,12 @@
 // Values of the twelve file types into the bytes of one element.
-pub mod kind;
 mod set;
 
-ghost use Rattle.encode.specs.Encode.{Stores, encoded};
+ghost use Rattle.values.specs.Encode.{Stores, encoded};
 use file_type::FileType;
-use kind::Kind;
-
-// A value to set. Text, and the name of a field, stand beside it.
-pub enum Value {
-    Whole(i64),
-    Float(u32),
-    Text,
-    Words(i64, i64, i64),
-    Field(i64),
-}
-
-// What setting an element answers: the number of the question that was answered with no, or done.
-pub enum Stored {
-    Refused(u8),
-    Done,
-}
+use values::Stored;
+use values::Value;
+use values::kind;
+use values::kind::Kind;
 
 // Sets an element from a value; `text` is the text of A and ST, or the name of the field. A refusal changes nothing.
 pub fn encode_element(t: FileType, v: Value, text: &[u8], element: &mut [u8]) -> Stored

@@ -1,45 +1,21 @@
 // Values into the bytes of an element.
-ghost use Prim.Native.Nat.{_+_, _≤_, _<_};
-ghost use mathlib.Core.Bool.{cond};
+ghost use Prim.Native.Nat.{_≤_};
 ghost use mathlib.Core.List.{_++_};
-ghost use mathlib.Core.Path.{_≡_};
 ghost use lib.ListN.{length};
 ghost use Rattle.base.specs.Numbers.{lowFirst};
 ghost use Rattle.base.specs.Put.{Wrote};
-ghost use Rattle.file_type.specs.Fields.{Placed};
-ghost use Rattle.encode.specs.Encode.{Stores, wholeAt, wordOf, longOf, floatOf, asciiOf, lineOf, wordsOf, bitOf, fieldOf, namedOf, onWhole, onFloat, onText, onFields};
-use crate::Stored;
-use crate::Value;
-use file_type::Field;
+ghost use Rattle.values.specs.Encode.{Stores, wordOf, longOf, floatOf, asciiOf, lineOf, wordsOf, namedOf, onWhole, onFloat, onText, onFields};
 use file_type::FileType;
+use values::Stored;
+use values::Value;
 use whole::Bits;
-
-// A number of k bytes from a place on, where it is in range.
-fn put_whole(
-    ones: u64,
-    low: u64,
-    high: u64,
-    n: i64,
-    element: &mut [u8],
-    at: usize,
-    k: usize,
-) -> Stored
-    requires { ⌜ (low ≤ ones) × (at + k ≤ length (now element)) ⌝ }
-    ensures { λ r. ⌜ Stores (wholeAt at k ones low high n) (now (element .entry)) r (now (element .exit)) ⌝ }
-{
-    let Bits::In(b) = whole::bits_of(ones, low, high, n) else {
-        return Stored::Refused(22);
-    };
-    base::put_number(element, at, k, b);
-    Stored::Done
-}
 
 pub fn word(v: Value, element: &mut [u8]) -> Stored
     requires { ⌜ 2 ≤ length (now element) ⌝ }
     ensures { λ r. ⌜ Stores (onWhole v wordOf) (now (element .entry)) r (now (element .exit)) ⌝ }
 {
     match v {
-        Value::Whole(n) => put_whole(0xFFFF, 32768, 65535, n, element, 0, 2),
+        Value::Whole(n) => set_field::put_whole(0xFFFF, 32768, 65535, n, element, 0, 2),
         Value::Float(_) => Stored::Refused(20),
         Value::Text => Stored::Refused(20),
         Value::Words(_, _, _) => Stored::Refused(20),
@@ -52,7 +28,15 @@ pub fn long(v: Value, element: &mut [u8]) -> Stored
     ensures { λ r. ⌜ Stores (onWhole v longOf) (now (element .entry)) r (now (element .exit)) ⌝ }
 {
     match v {
-        Value::Whole(n) => put_whole(0xFFFF_FFFF, 2147483648, 2147483647, n, element, 0, 4),
+        Value::Whole(n) => set_field::put_whole(
+            0xFFFF_FFFF,
+            2147483648,
+            2147483647,
+            n,
+            element,
+            0,
+            4,
+        ),
         Value::Float(_) => Stored::Refused(20),
         Value::Text => Stored::Refused(20),
         Value::Words(_, _, _) => Stored::Refused(20),
@@ -88,19 +72,10 @@ pub fn ascii(v: Value, text: &[u8], element: &mut [u8]) -> Stored
     match v {
         Value::Whole(_) => Stored::Refused(20),
         Value::Float(_) => Stored::Refused(20),
-        Value::Text => put_ascii(text, element),
+        Value::Text => set_text::put_ascii(text, element),
         Value::Words(_, _, _) => Stored::Refused(20),
         Value::Field(_) => Stored::Refused(20),
     }
-}
-
-fn put_ascii(text: &[u8], element: &mut [u8]) -> Stored
-    requires { ⌜ 2 ≤ length (now element) ⌝ }
-    ensures { λ r. ⌜ Stores (asciiOf (now (text .entry))) (now (element .entry)) r (now (element .exit)) ⌝ }
-{
-    let bytes = swap::encode_pccc_ascii(text);
-    base::put_all(element, 0, &bytes);
-    Stored::Done
 }
 
 pub fn line(v: Value, text: &[u8], element: &mut [u8]) -> Stored
@@ -110,22 +85,10 @@ pub fn line(v: Value, text: &[u8], element: &mut [u8]) -> Stored
     match v {
         Value::Whole(_) => Stored::Refused(20),
         Value::Float(_) => Stored::Refused(20),
-        Value::Text => put_line(text, element),
+        Value::Text => set_text::put_line(text, element),
         Value::Words(_, _, _) => Stored::Refused(20),
         Value::Field(_) => Stored::Refused(20),
     }
-}
-
-fn put_line(text: &[u8], element: &mut [u8]) -> Stored
-    requires { ⌜ 84 ≤ length (now element) ⌝ }
-    ensures { λ r. ⌜ Stores (lineOf (now (text .entry))) (now (element .entry)) r (now (element .exit)) ⌝ }
-{
-    if 82 < text.len() {
-        return Stored::Refused(23);
-    }
-    let bytes = swap::encode_pccc_string(text);
-    base::put_all(element, 0, &bytes);
-    Stored::Done
 }
 
 // Three words; none is stored where one is out of range.
@@ -155,39 +118,6 @@ fn lay_words(a: u64, b: u64, c: u64, element: &mut [u8]) -> usize
     base::put_number(element, q, 2, c)
 }
 
-// Sets or clears a bit of word 0.
-fn put_bit(b: u8, clear: bool, element: &mut [u8]) -> Stored
-    requires { ⌜ 2 ≤ length (now element) ⌝ }
-    ensures { λ r. ⌜ Stores (bitOf b clear (now (element .entry))) (now (element .entry)) r (now (element .exit)) ⌝ }
-{
-    let mask = base::bit_mask(b);
-    let old = base::word_at(element, 0);
-    let word = base::mixed(mask, old, mask_or_zero(mask, clear));
-    base::put_number(element, 0, 2, word as u64);
-    Stored::Done
-}
-
-fn mask_or_zero(mask: u16, clear: bool) -> u16
-    ensures { λ r. ⌜ r ≡ cond clear 0 mask ⌝ }
-{
-    if clear {
-        return 0;
-    }
-    mask
-}
-
-// One named field.
-fn put_field(f: Field, n: i64, element: &mut [u8]) -> Stored
-    requires { ⌜ (6 ≤ length (now element)) × Placed f ⌝ }
-    ensures { λ r. ⌜ Stores (fieldOf f n (now (element .entry))) (now (element .entry)) r (now (element .exit)) ⌝ }
-{
-    match f {
-        Field::Unknown => Stored::Refused(21),
-        Field::Word(i) => put_whole(0xFFFF, 32768, 32767, n, element, 2 + 2 * (i as usize), 2),
-        Field::Bit(i) => put_bit(15 - i, whole::is_zero(n), element),
-    }
-}
-
 // Three words, or one field by its name.
 pub fn fields(t: FileType, v: Value, name: &[u8], element: &mut [u8]) -> Stored
     requires { ⌜ 6 ≤ length (now element) ⌝ }
@@ -198,6 +128,6 @@ pub fn fields(t: FileType, v: Value, name: &[u8], element: &mut [u8]) -> Stored
         Value::Float(_) => Stored::Refused(20),
         Value::Text => Stored::Refused(20),
         Value::Words(x, y, z) => put_words(x, y, z, element),
-        Value::Field(n) => put_field(t.field(name), n, element),
+        Value::Field(n) => set_field::put_named(t, name, n, element),
     }
 }

@@ -1,12 +1,9 @@
-// Data file types: names, PCCC type codes, element sizes, and the names of words and status bits in T, C and R.
+// Data file types: names, PCCC type codes, element sizes.
 ghost use mathlib.Core.Path.{_≡_};
-ghost use mathlib.Core.List.{[]};
-ghost use mathlib.Core.Option.{some};
 ghost use Prim.Native.Nat.{_<_, _≤_};
-ghost use lib.ListN.{length, getD, take};
+ghost use lib.ListN.{take};
 ghost use Rattle.base.specs.Chars.{spelled};
-ghost use Rattle.file_type.specs.Fields.{firstField};
-ghost use Rattle.file_type.specs.Table.{row, Named, ofCode, ofName, bitNames, wordNames, fieldNames, fieldAt, ofField};
+ghost use Rattle.file_type.specs.Table.{row, Named, ofCode, ofName};
 
 pub enum FileType {
     O,
@@ -207,95 +204,6 @@ impl FileType {
         }
     }
 
-    // How many fields of an element have a name: words 1 and 2, and the status bits.
-    fn fields(self) -> usize
-        ensures { λ r. ⌜ r ≡ length (fieldNames self) ⌝ }
-    {
-        match self {
-            FileType::O => 0,
-            FileType::I => 0,
-            FileType::S => 0,
-            FileType::B => 0,
-            FileType::T => 5,
-            FileType::C => 8,
-            FileType::R => 10,
-            FileType::N => 0,
-            FileType::F => 0,
-            FileType::ST => 0,
-            FileType::A => 0,
-            FileType::L => 0,
-            FileType::MG => 0,
-            FileType::PD => 0,
-            FileType::PLS => 0,
-        }
-    }
-
-    // Where its names begin in FIELD_NAMES.
-    fn first_field(self) -> usize
-        ensures { λ r. ⌜ r ≡ firstField self ⌝ }
-    {
-        match self {
-            FileType::O => 0,
-            FileType::I => 0,
-            FileType::S => 0,
-            FileType::B => 0,
-            FileType::T => 0,
-            FileType::C => 5,
-            FileType::R => 13,
-            FileType::N => 0,
-            FileType::F => 0,
-            FileType::ST => 0,
-            FileType::A => 0,
-            FileType::L => 0,
-            FileType::MG => 0,
-            FileType::PD => 0,
-            FileType::PLS => 0,
-        }
-    }
-
-    // How many status bits of an element have a name.
-    pub fn bits(self) -> usize
-        ensures { λ r. ⌜ r ≡ length (bitNames self) ⌝ }
-    {
-        match self {
-            FileType::O => 0,
-            FileType::I => 0,
-            FileType::S => 0,
-            FileType::B => 0,
-            FileType::T => 3,
-            FileType::C => 6,
-            FileType::R => 8,
-            FileType::N => 0,
-            FileType::F => 0,
-            FileType::ST => 0,
-            FileType::A => 0,
-            FileType::L => 0,
-            FileType::MG => 0,
-            FileType::PD => 0,
-            FileType::PLS => 0,
-        }
-    }
-
-    // The name of status bit 15 - i; empty where it has none.
-    pub fn bit_name(self, i: usize) -> Name
-        ensures { λ r. ⌜ Named (getD (bitNames self) i []) r ⌝ }
-    {
-        if 8 <= i {
-            return no_name();
-        }
-        field_name(self, i + 2)
-    }
-
-    // The name of word i + 1 of T, C and R; empty where it has none.
-    pub fn word_name(self, i: usize) -> Name
-        ensures { λ r. ⌜ Named (getD (wordNames self) i []) r ⌝ }
-    {
-        if 2 <= i {
-            return no_name();
-        }
-        field_name(self, i)
-    }
-
     // The type of a name, in capital letters.
     pub fn from_name(name: &[u8]) -> Known
         ensures { λ r. ⌜ r ≡ ofName (now (name .entry)) ⌝ }
@@ -309,21 +217,6 @@ impl FileType {
             i += 1;
         }
         Known::Unknown
-    }
-
-    // What a name, in either case, stands for in an element of this type.
-    pub fn field(self, name: &[u8]) -> Field
-        ensures { λ r. ⌜ r ≡ ofField self (now (name .entry)) ⌝ }
-    {
-        let n = self.fields();
-        let mut i = 0;
-        while i < n {
-            if is_name(field_name(self, i), name, true) {
-                return field_at(i);
-            }
-            i += 1;
-        }
-        Field::Unknown
     }
 }
 
@@ -345,15 +238,6 @@ const FILE_TYPES: [FileType; 15] = [
     FileType::PLS,
 ];
 
-fn no_name() -> Name
-    ensures { λ r. ⌜ Named [] r ⌝ }
-{
-    Name {
-        text: [0, 0, 0],
-        len: 0,
-    }
-}
-
 // Does `s` spell this name?
 fn is_name(n: Name, s: &[u8], any_case: bool) -> bool
     requires { ⌜ n .len ≤ 3 ⌝ }
@@ -362,17 +246,6 @@ fn is_name(n: Name, s: &[u8], any_case: bool) -> bool
     let text = n.text;
     let len = n.len;
     base::spells(s, &text[..len], any_case)
-}
-
-// The word or bit at a place among the names.
-fn field_at(i: usize) -> Field
-    requires { ⌜ i < 10 ⌝ }
-    ensures { λ r. ⌜ r ≡ fieldAt (some i) ⌝ }
-{
-    if i < 2 {
-        return Field::Word(i as u8);
-    }
-    Field::Bit((i - 2) as u8)
 }
 
 // The names of words 1 and 2 and of the bits from 15 down, of T, C and R.
@@ -401,16 +274,3 @@ const FIELD_NAMES: [[u8; 3]; 23] = [
     [b'I', b'N', 0],
     [b'F', b'D', 0],
 ];
-
-fn field_name(t: FileType, i: usize) -> Name
-    ensures { λ r. ⌜ Named (getD (fieldNames t) i []) r ⌝ }
-{
-    if t.fields() <= i {
-        return no_name();
-    }
-    let text = FIELD_NAMES[t.first_field() + i];
-    if i < 2 {
-        return Name { text, len: 3 };
-    }
-    Name { text, len: 2 }
-}

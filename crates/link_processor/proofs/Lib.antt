@@ -1,3 +1,1 @@
 pub mod Telling
-pub mod Numbers
-pub mod Accesses

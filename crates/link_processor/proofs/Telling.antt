@@ -2,7 +2,7 @@
 use Prim.Native.Nat.{ℕ}
 use mathlib.Core.Path.{_≡_, refl, ap, _∙_}
 use mathlib.Core.List.{List}
-use Rattle.build.specs.Plans.{Ended, ended}
+use Rattle.build_plan.specs.Plans.{Ended, ended}
 use Rattle.model.specs.declared.Answered.the-variants as answered
 use Rattle.model.specs.declared.Built.{Built}
 use Rattle.model.specs.declared.Done.{Done}

@@ -2,7 +2,7 @@
 use Prim.Native.Nat.{ℕ}
 use mathlib.Core.Path.{_≡_}
 use mathlib.Core.List.{List}
-use Rattle.build.specs.Plans.{Ended}
+use Rattle.build_plan.specs.Plans.{Ended}
 use Rattle.model.specs.declared.Answered.{Answered}
 use Rattle.model.specs.declared.Answered.the-variants as answered
 use Rattle.model.specs.declared.Built.{Built}

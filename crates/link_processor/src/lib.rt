@@ -1,13 +1,11 @@
 // The simulated processor's records of the C interface, and the covered parts of its exported calls: each calls a proved function and tells
 // its answer in numbers.
-pub mod elements;
-
 ghost use mathlib.Core.Path.{_≡_};
-ghost use Rattle.build.specs.Plans.{finishOf};
-ghost use Rattle.core.specs.Calls.{respondOf, showOf};
+ghost use Rattle.build_plan.specs.Plans.{finishOf};
+ghost use Rattle.questions.specs.Calls.{respondOf, showOf};
 ghost use Rattle.model.specs.Pccc.{left};
 ghost use Rattle.link_processor.specs.Answers.{doneOf, numbered, builtOf, Finished};
-use build::Judged;
+use build_plan::Judged;
 use model::Answered;
 use model::Built;
 use model::Done;
@@ -78,7 +76,7 @@ pub fn show(
 ) -> SlcDone
     ensures { λ r. ⌜ left r (now (memory .exit)) (now (reply .exit)) ≡ numbered (showOf slc s q d (now (memory .entry)) (now (log .entry)) (now (command .entry)) (now (reply .entry))) ⌝ }
 {
-    done_of(core::show(slc, s, q, d, memory, log, command, reply))
+    done_of(shown::show(slc, s, q, d, memory, log, command, reply))
 }
 
 pub fn built_of(b: Built) -> SlcBuilt
@@ -96,5 +94,5 @@ pub fn built_of(b: Built) -> SlcBuilt
 pub fn finish(j: Judged, text: &[u8], count: usize, memory: &mut [u8]) -> SlcBuilt
     ensures { λ r. ⌜ Finished (finishOf j (now (text .entry)) count (now (memory .entry))) r (now (memory .exit)) ⌝ }
 {
-    built_of(build::finish(j, text, count, memory))
+    built_of(build_end::finish(j, text, count, memory))
 }

@@ -1,4 +1,3 @@
-pub mod Laying
 pub mod OfKind
 pub mod Records
 pub mod Through

@@ -1,4 +1,2 @@
 pub mod Kinds
 pub mod Requests
-pub mod Types
-pub mod Written

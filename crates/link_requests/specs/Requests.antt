@@ -1,22 +1,18 @@
 -- The records of an address and of a request. Refused: the number, and 0 for all else.
 use Prim.Native.Nat.{ℕ}
 use mathlib.Core.Path.{_≡_}
-use mathlib.Core.Bool.{Bool, cond}
 use mathlib.Core.List.{List}
 use Rattle.file_type.specs.Table.{row}
-use Rattle.address.specs.declared.Address.{Address}
-use Rattle.address.specs.declared.Parsed.{Parsed}
-use Rattle.address.specs.declared.Parsed.the-variants as parsed
-use Rattle.address.specs.Spelling.{present, orZero}
-use Rattle.request.specs.declared.Request.{Request}
-use Rattle.request.specs.declared.Request.the-variants as request
-use Rattle.request.specs.Request.{Asked, requestOf, left}
+use Rattle.spelling.specs.declared.Address.{Address}
+use Rattle.spelling.specs.declared.Parsed.{Parsed}
+use Rattle.spelling.specs.declared.Parsed.the-variants as parsed
+use Rattle.spelling.specs.Spelling.{present, orZero}
+use Rattle.asking.specs.declared.Request.{Request}
+use Rattle.asking.specs.declared.Request.the-variants as request
+use Rattle.asking.specs.Request.{Asked, requestOf, left}
+use Rattle.link_types.specs.Types.{flag}
 use Rattle.link_requests.specs.declared.requests.SlcAddress.{SlcAddress}
 use Rattle.link_requests.specs.declared.requests.SlcRequest.{SlcRequest}
-
--- 1 for yes, 0 for no
-abbrev pub flag : Bool → ℕ
-flag b = cond b 1 0
 
 unfoldable pub noAddress : ℕ → SlcAddress
 noAddress n = record {

@@ -1,7 +1,8 @@
 // Addresses and requests.
 ghost use mathlib.Core.Path.{_≡_};
-ghost use Rattle.address.specs.Spelling.{present, orZero};
-ghost use Rattle.link_requests.specs.Requests.{flag, noAddress, fullAddress, addressRecord, requestRecord};
+ghost use Rattle.spelling.specs.Spelling.{present, orZero};
+ghost use Rattle.link_types.specs.Types.{flag};
+ghost use Rattle.link_requests.specs.Requests.{noAddress, fullAddress, addressRecord, requestRecord};
 use address::Address;
 use address::Maybe;
 use address::Parsed;

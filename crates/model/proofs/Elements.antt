@@ -12,9 +12,9 @@ use lib.ListN.{length, length-append}
 use Rattle.base.specs.Numbers.{lowFirst}
 use Rattle.base.specs.Outcome.{Outcome, refused, lays}
 use Rattle.base.proofs.Numbers.{low-length}
-use Rattle.encode.specs.declared.Value.{Value}
-use Rattle.encode.specs.declared.Value.the-variants as value
-use Rattle.encode.specs.Encode.{kindOf, wholeAt, wordOf, longOf, wordsOf, floatOf, asciiOf, lineOf, fieldOf, namedOf, onWhole, onFloat, onText, onFields, encodeAs, encoded}
+use Rattle.values.specs.declared.Value.{Value}
+use Rattle.values.specs.declared.Value.the-variants as value
+use Rattle.values.specs.Encode.{kindOf, wholeAt, wordOf, longOf, wordsOf, floatOf, asciiOf, lineOf, fieldOf, namedOf, onWhole, onFloat, onText, onFields, encodeAs, encoded}
 use Rattle.file_type.specs.declared.FileType.{FileType}
 use Rattle.file_type.specs.declared.FileType.the-variants.{O, I, S, B, T, C, R, N, F, ST, A, L, MG, PD, PLS}
 use Rattle.file_type.specs.Table.{row, fieldAt, ofField, place, fieldNames}

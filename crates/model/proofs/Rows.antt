@@ -9,8 +9,8 @@ use lib.ListN.{take, drop, replicate}
 use Rattle.base.specs.Chars.{bytes}
 use Rattle.base.specs.Outcome.{refused, lays}
 use Rattle.decode.specs.Decode.{refuses, whole, decoded}
-use Rattle.encode.specs.declared.Value.the-variants as value
-use Rattle.encode.specs.Encode.{encoded}
+use Rattle.values.specs.declared.Value.the-variants as value
+use Rattle.values.specs.Encode.{encoded}
 use Rattle.file_type.specs.declared.FileType.the-variants.{N, F}
 use Rattle.model.specs.declared.Answered.the-variants as answered
 use Rattle.model.specs.declared.Done.{Done}

@@ -6,8 +6,8 @@ use mathlib.Core.Option.{Option, none, some}
 use lib.ListN.{take, drop}
 use Rattle.base.specs.Outcome.{Outcome, refused, lays}
 use Rattle.decode.specs.Decode.{Says, refuses, decoded}
-use Rattle.encode.specs.declared.Value.{Value}
-use Rattle.encode.specs.Encode.{encoded}
+use Rattle.values.specs.declared.Value.{Value}
+use Rattle.values.specs.Encode.{encoded}
 use Rattle.file_type.specs.declared.FileType.{FileType}
 use Rattle.file_type.specs.Table.{row}
 use Rattle.model.specs.Files.{locate}

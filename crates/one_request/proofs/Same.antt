@@ -13,16 +13,16 @@ use Rattle.file_type.specs.declared.FileType.the-variants.{O, I, S, B, T, C, R,
 use Rattle.file_type.specs.declared.Known.the-variants as known
 use Rattle.file_type.specs.Table.{row, ofCode}
 use Rattle.file_type.proofs.Table.{own-code}
-use Rattle.address.specs.declared.Address.{Address}
-use Rattle.address.specs.declared.Parsed.{Parsed}
-use Rattle.address.specs.declared.Parsed.the-variants as parsed
-use Rattle.address.specs.Elements.{Elements, elementsOf, filed, slotted, allowed, spellable}
-use Rattle.address.specs.Spelling.{addressOf}
-use Rattle.address.proofs.Ranges.{can}
+use Rattle.spelling.specs.declared.Address.{Address}
+use Rattle.spelling.specs.declared.Parsed.{Parsed}
+use Rattle.spelling.specs.declared.Parsed.the-variants as parsed
+use Rattle.spelling.specs.Elements.{Elements, elementsOf, filed, slotted, allowed, spellable}
+use Rattle.spelling.specs.Spelling.{addressOf}
+use Rattle.spelling.proofs.Ranges.{can}
 use Rattle.frame.specs.Frame.{addressField, commandHead, twoAddresses, threeAddresses, typed}
 use Rattle.frame.specs.declared.Place.{Place}
 use Rattle.frame.specs.declared.Requestor.{Requestor}
-use Rattle.request.specs.Request.{Asked, refused, sends, bitAndCount, place, readSize, readMessage, readAddress, onAddress, reading}
+use Rattle.asking.specs.Request.{Asked, refused, sends, bitAndCount, place, readSize, readMessage, readAddress, onAddress, reading}
 use Rattle.model.specs.Params.{Header, header, address}
 use Rattle.model.proofs.Requests.{address-back, header-back}
 use Rattle.one_request.specs.OneRequest.{OneRequest}

@@ -4,10 +4,10 @@ use Prim.Native.Nat.{ℕ}
 use mathlib.Core.Path.{_≡_}
 use mathlib.Core.Logic.{_↔_}
 use mathlib.Core.List.{List}
-use Rattle.address.specs.declared.Address.{Address}
-use Rattle.address.specs.Elements.{elementsOf}
+use Rattle.spelling.specs.declared.Address.{Address}
+use Rattle.spelling.specs.Elements.{elementsOf}
 use Rattle.frame.specs.declared.Requestor.{Requestor}
-use Rattle.request.specs.Request.{sends, reading}
+use Rattle.asking.specs.Request.{sends, reading}
 
 abbrev pub OneRequest : Type 0
 OneRequest =

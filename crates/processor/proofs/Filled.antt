@@ -11,7 +11,7 @@ use Rattle.sys0.specs.Families.{sys0}
 use Rattle.model.specs.Directory.{directory}
 use Rattle.model.proofs.Directory.{directory-fits}
 use Rattle.model.proofs.Tests.{and-both}
-use Rattle.core.proofs.Right.{Fills}
+use Rattle.questions.proofs.Right.{Fills}
 use Rattle.listing.specs.Listing.{directoryOf}
 use Rattle.listing.proofs.Right.{directory-is}
 

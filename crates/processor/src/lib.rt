@@ -16,11 +16,11 @@ pub fn pccc(
 ) -> Done
     ensures { λ r. ⌜ Says slc (now (table .entry)) (now (memory .entry)) (now (log .entry)) (now (command .entry)) (now (reply .entry)) r (now (memory .exit)) (now (reply .exit)) ⌝ }
 {
-    let q = query::asked(slc, command);
+    let q = asked::asked(slc, command);
     let s = table::survey(table, slc.files, q.number);
     if q.directory {
         let d = listing::directory(table, slc.files, q, s);
-        core::show(slc, s, q, d, memory, log, command, reply)
+        shown::show(slc, s, q, d, memory, log, command, reply)
     } else {
         core::respond(slc, s, q, memory, log, command, reply)
     }

@@ -1,17 +1,17 @@
 -- What a part leaves stands at the end of what it was given, so that the place where it begins says which bytes it is.
 use Prim.Native.Nat.{ℕ, _+_, _-_, _≤_}
-use mathlib.Core.Path.{_≡_, refl, sym, ap, _∙_}
+use mathlib.Core.Path.{_≡_, sym, ap, _∙_}
 use mathlib.Core.Bool.{Bool, true, false, cond}
-use mathlib.Core.List.{List, []}
-use mathlib.Core.Option.{Option, none, some}
+use mathlib.Core.List.{List}
+use mathlib.Core.Option.{Option}
 use native.Mathlib.Omega.{arith}
 use borrow.Author.Tests.{leb-true}
 use lib.Dec.{leb, eqb}
 use lib.ListN.{length, drop, length-drop}
 use lib.Seq.{drop-drop}
-use Rattle.parts.specs.Parts.{Part, then, give}
+use Rattle.parts.specs.Parts.{Part, give}
 use Rattle.parts.proofs.Held.{Holds, nothing, that, weaker, and-next}
-use Rattle.model.specs.Params.{several, numberOf, address, Header, header, lastAddress, maskWord}
+use Rattle.model.specs.Params.{several, numberOf, address, header, lastAddress, maskWord}
 use Rattle.model.proofs.Tests.{cases}
 
 pub record Behind (s r : List ℕ) : Type 0 where

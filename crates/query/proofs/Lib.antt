@@ -1,4 +1,4 @@
-pub mod Functions
+pub mod Family
 pub mod Behind
 pub mod Places
 pub mod Asking

@@ -1,26 +1,24 @@
 -- What was read, by the place behind it.
 use Prim.Native.Nat.{ℕ, _+_, _-_, _≤_, _<_}
-use mathlib.Core.Path.{_≡_, refl, sym, ap, subst, _∙_}
-use mathlib.Core.Bool.{Bool, true, false, not, cond, false≢true}
-use mathlib.Core.List.{List, [], _∷_}
+use mathlib.Core.Path.{_≡_, refl, sym, ap, _∙_}
+use mathlib.Core.Bool.{true, false, not, false≢true}
+use mathlib.Core.List.{List}
 use mathlib.Core.Option.{Option, none, some}
 use native.Mathlib.Omega.{arith}
-use borrow.Author.Tests.{le-leb, not-true, not-false, eq-eqb, ne-eqb}
-use lib.Dec.{eqb}
-use lib.ListN.{length, getD, take, drop, length-drop}
-use lib.Seq.{drop-drop}
+use borrow.Author.Tests.{le-leb, not-true, not-false, ne-eqb}
+use lib.ListN.{length, take, drop, length-drop}
 use Rattle.base.specs.Numbers.{number}
 use Rattle.parts.specs.Parts.{then}
-use Rattle.parts.proofs.Held.{Holds, nothing, that}
-use Rattle.model.specs.Params.{several, Header, header, address, lastAddress, maskWord, numberOf}
-use Rattle.model.proofs.Reader.{word-there, word-none}
+use Rattle.parts.proofs.Held.{that}
+use Rattle.model.specs.Params.{several, Header, header, lastAddress, maskWord}
+use Rattle.model.proofs.Reader.{word-none}
 use Rattle.params.specs.declared.Header as params
 use Rattle.params.specs.declared.Word.the-variants as word
 use Rattle.params.specs.declared.WordStep.{WordStep}
 use Rattle.params.specs.Header.{noHeader, headerBy, headerOf}
 use Rattle.params.specs.Take.{placeOf, wordStep, addressAt}
 use Rattle.query.specs.Query.{headerIn}
-use Rattle.query.proofs.Behind.{Behind, behind-drop, behind-trans, Leaves, last-leaves, mask-leaves, header-leaves}
+use Rattle.query.proofs.Behind.{Behind, behind-drop, behind-trans, Leaves, header-leaves}
 
 -- ---- a step
 module _ (s : List ℕ) (at : ℕ) (a : WordStep) where

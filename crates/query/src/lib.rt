@@ -1,4 +1,4 @@
-// What a command says, read once, by the command and the type text alone.
+// What a command says, by the bytes behind its frame and the type text alone.
 use model::Slc;
 use params::Header;
 use params::Word;
@@ -6,10 +6,10 @@ use params::WordStep;
 ghost use mathlib.Core.Path.{_≡_};
 ghost use Prim.Native.Nat.{_≤_};
 ghost use lib.ListN.{length, take, drop};
-ghost use Rattle.model.specs.Params.{knownFunction, writes as Params·writes, asksDirectory, asksDatalog, lastAddress, maskWord, header as Params·header};
+ghost use Rattle.model.specs.Params.{lastAddress, maskWord, header as Params·header};
 ghost use Rattle.sys0.specs.Families.{sys0 as Families·sys0};
 ghost use Rattle.params.specs.Take.{wordStep};
-ghost use Rattle.query.specs.Query.{headerIn, plainly, orBad, layoutOf, directoryQuery, accessQuery, fileQuery, functionQuery, queryOf};
+ghost use Rattle.query.specs.Query.{headerIn, plainly, orBad, layoutOf, directoryQuery, accessQuery, fileQuery, functionQuery};
 
 // What is wanted: nothing that is legal (status 10), nothing that can be had (status F0, extended 06), the diagnostic status, the oldest datalog
 // entry, the directory, or bytes of a file.
@@ -54,7 +54,7 @@ pub struct Query {
 }
 
 // A query that tells of no file.
-fn plain(wants: Wants) -> Query
+pub fn plain(wants: Wants) -> Query
     ensures { λ r. ⌜ r ≡ plainly wants ⌝ }
 {
     let layout = Layout {
@@ -76,45 +76,6 @@ fn plain(wants: Wants) -> Query
         place: 0,
         layout,
     }
-}
-
-fn known_function(function: u8) -> bool
-    ensures { λ r. ⌜ r ≡ knownFunction function ⌝ }
-{
-    if function == 0xA1 {
-        return true;
-    }
-    if function == 0xA2 {
-        return true;
-    }
-    writes(function)
-}
-
-fn writes(function: u8) -> bool
-    ensures { λ r. ⌜ r ≡ Params·writes function ⌝ }
-{
-    if function == 0xAA {
-        return true;
-    }
-    function == 0xAB
-}
-
-fn asks_directory(function: u8, file: u16) -> bool
-    ensures { λ r. ⌜ r ≡ asksDirectory function file ⌝ }
-{
-    if function == 0xA1 {
-        return file == 0;
-    }
-    false
-}
-
-fn asks_datalog(function: u8, code: u8) -> bool
-    ensures { λ r. ⌜ r ≡ asksDatalog function code ⌝ }
-{
-    if function == 0xA2 {
-        return code == 0xA5;
-    }
-    false
 }
 
 // The last address and the place behind it; function A1 has none and takes 0.
@@ -193,7 +154,7 @@ fn file_query(function: u8, h: Header, s: &[u8]) -> Query
     let Word::Value(mask) = masked else {
         return plain(Wants::Bad);
     };
-    if !writes(function) {
+    if !functions::writes(function) {
         return access(Wants::Read, h, sub, mask, m.next);
     }
     if s.len() - m.next < (h.size as usize) {
@@ -237,42 +198,21 @@ fn directory_query(slc: Slc, h: Header) -> Query
 }
 
 // CMD 0x0F: the questions in their order.
-fn function_query(slc: Slc, function: u8, s: &[u8]) -> Query
+pub fn function_query(slc: Slc, function: u8, s: &[u8]) -> Query
     ensures { λ r. ⌜ r ≡ functionQuery (take (slc .«type_len») (slc .«type_text»)) function (now (s .entry)) (Params·header (now (s .entry))) ⌝ }
 {
     let h = params::read_header(s);
     if !h.whole {
         return plain(Wants::Bad);
     }
-    if !known_function(function) {
+    if !functions::known_function(function) {
         return plain(Wants::Illegal);
     }
-    if asks_directory(function, h.file) {
+    if functions::asks_directory(function, h.file) {
         return directory_query(slc, h);
     }
-    if asks_datalog(function, h.code) {
+    if functions::asks_datalog(function, h.code) {
         return plain(Wants::Entry);
     }
     file_query(function, h, s)
-}
-
-// What a command says. The bytes behind the function byte are handed on as a part.
-pub fn asked(slc: Slc, command: &[u8]) -> Query
-    ensures { λ r. ⌜ r ≡ queryOf slc (now (command .entry)) ⌝ }
-{
-    let n = framed::id_len(command);
-    if command.len() < n + 5 {
-        return plain(Wants::Illegal);
-    }
-    let function = command[n + 4];
-    if command[n] == 0x0F {
-        return function_query(slc, function, &command[n + 5..]);
-    }
-    if command[n] != 0x06 {
-        return plain(Wants::Illegal);
-    }
-    if function != 0x03 {
-        return plain(Wants::Illegal);
-    }
-    plain(Wants::Diagnostic)
 }

@@ -5,66 +5,16 @@ ghost use Prim.Native.Nat.{_+_, _<_, _≤_};
 ghost use lib.ListN.{length};
 ghost use Rattle.base.specs.Chars.{bytes};
 ghost use Rattle.base.specs.Put.{Wrote};
-ghost use Rattle.reply.specs.Status.{digit as Status·digit, inHex, textOf, byteAt, said, statusText, Tells, datalogEntry};
+ghost use Rattle.status_text.specs.Texts.{Tells};
+ghost use Rattle.reply.specs.Status.{digit as Status·digit, inHex, byteAt, said, statusText, datalogEntry};
+use status_text::ROOM;
+use status_text::StatusText;
 
-// Bytes that a status text may need.
-const ROOM: usize = 96;
 // Where a raw reply has its status.
 const STATUS: usize = 58;
 
 // Where it has what follows its header: data, or an extended status.
 const START: usize = 61;
-
-// How long a text is that was written, or why none was: there is nothing to say, or a question was answered with no.
-pub enum StatusText {
-    Nothing,
-    Written(usize),
-    Refused(u8),
-}
-
-fn write(out: &mut [u8], text: &[u8]) -> StatusText
-    requires { ⌜ length (now text) ≤ 96 ⌝ }
-    ensures { λ r. ⌜ Tells (some (now (text .entry))) (now (out .entry)) r (now (out .exit)) ⌝ }
-{
-    if out.len() < ROOM {
-        return StatusText::Refused(6);
-    }
-    StatusText::Written(base::put_all(out, 0, text))
-}
-
-// The text of a status code, as the Rust spells it.
-pub fn pccc_error_text(status: u8, out: &mut [u8]) -> StatusText
-    ensures { λ r. ⌜ Tells (textOf status) (now (out .entry)) r (now (out .exit)) ⌝ }
-{
-    match status {
-        0x10 => write(
-            out,
-            b"Illegal Command or Format, Address may not exist or not enough elements in data file",
-        ),
-        0x20 => write(out, b"PLC Has a Problem and Will Not Communicate"),
-        0x30 => write(
-            out,
-            b"Remote Node Host is Missing, Disconnected, or Shut Down",
-        ),
-        0x40 => write(
-            out,
-            b"Host Could Not Complete Function Due To Hardware Fault",
-        ),
-        0x50 => write(out, b"Addressing problem or Memory Protect Rungs"),
-        0x60 => write(
-            out,
-            b"Function not allows due to command protection selection",
-        ),
-        0x70 => write(out, b"Processor is in Program mode"),
-        0x80 => write(
-            out,
-            b"Compatibility mode file missing or communication zone problem",
-        ),
-        0x90 => write(out, b"Remote node cannot buffer command"),
-        0xF0 => write(out, b"Error code in EXT STS Byte"),
-        _ => StatusText::Nothing,
-    }
-}
 
 // A small digit.
 fn digit(d: u8) -> u8
@@ -98,7 +48,7 @@ fn unknown(status: u8, out: &mut [u8]) -> StatusText
 fn extended(raw: &[u8], out: &mut [u8]) -> StatusText
     ensures { λ r. ⌜ Tells (said (some 0xF0) (byteAt 61 (now (raw .entry)))) (now (out .entry)) r (now (out .exit)) ⌝ }
 {
-    let text = pccc_error_text(0xF0, out);
+    let text = status_text::pccc_error_text(0xF0, out);
     if raw.len() <= START {
         return text;
     }
@@ -109,12 +59,22 @@ fn extended(raw: &[u8], out: &mut [u8]) -> StatusText
     }
 }
 
+// What is said of a reply that ends before its status.
+fn missing(out: &mut [u8]) -> StatusText
+    ensures { λ r. ⌜ Tells (some (bytes "Unknown Status")) (now (out .entry)) r (now (out .exit)) ⌝ }
+{
+    if out.len() < ROOM {
+        return StatusText::Refused(6);
+    }
+    StatusText::Written(base::put_all(out, 0, b"Unknown Status"))
+}
+
 // The status of a raw reply in words; nothing where it is success.
 pub fn request_status(raw: &[u8], out: &mut [u8]) -> StatusText
     ensures { λ r. ⌜ Tells (statusText (now (raw .entry))) (now (out .entry)) r (now (out .exit)) ⌝ }
 {
     if raw.len() <= STATUS {
-        return write(out, b"Unknown Status");
+        return missing(out);
     }
     let status = raw[STATUS];
     if status == 0 {
@@ -123,7 +83,7 @@ pub fn request_status(raw: &[u8], out: &mut [u8]) -> StatusText
     if status == 0xF0 {
         return extended(raw, out);
     }
-    let text = pccc_error_text(status, out);
+    let text = status_text::pccc_error_text(status, out);
     match text {
         StatusText::Nothing => unknown(status, out),
         StatusText::Written(n) => StatusText::Written(n),

@@ -1,28 +1,12 @@
 // Requests that read and write what an address text names.
-mod asked;
-mod data;
-
+pub use asking::Request;
+pub use asking::Value;
+pub use asking::bit_and_count;
 ghost use mathlib.Core.Path.{_≡_};
-ghost use Rattle.request.specs.Request.{Builds, reading, writing};
-use address::Address;
-use address::Parsed;
-use asked::Size;
-pub use asked::bit_and_count;
-use frame::Place;
+ghost use Rattle.asking.specs.Request.{Builds, reading, writing};
+use asking::Size;
 use frame::Requestor;
-
-// What to write. Raw bytes and text stand beside it.
-pub enum Value {
-    Raw,
-    Bool(bool),
-    Text,
-}
-
-// The address and the length of the message, or the number of the question that was answered with no.
-pub enum Request {
-    Refused(u8),
-    Built(Address, usize),
-}
+use spelling::Parsed;
 
 // The message that reads what a tag names. Refused with 1, 2, 3, 5 and 6.
 pub fn read_request(tag: &[u8], q: Requestor, sequence: u16, out: &mut [u8]) -> Request
@@ -32,16 +16,16 @@ pub fn read_request(tag: &[u8], q: Requestor, sequence: u16, out: &mut [u8]) -> 
     match parsed {
         Parsed::Refused(n) => Request::Refused(n),
         Parsed::Is(x) => {
-            if asked::bit_and_count(x) {
+            if asking::bit_and_count(x) {
                 return Request::Refused(3);
             }
-            let Size::Is(size) = asked::read_size(x) else {
+            let Size::Is(size) = asking::read_size(x) else {
                 return Request::Refused(5);
             };
             if out.len() < 27 {
                 return Request::Refused(6);
             }
-            let p = asked::place(x, asked::position(x));
+            let p = asking::place(x, asking::position(x));
             let n = frame::put_typed(out, q, sequence, 0xA2, size, p);
             Request::Built(x, n)
         }
@@ -63,21 +47,21 @@ pub fn write_request(
     match parsed {
         Parsed::Refused(n) => Request::Refused(n),
         Parsed::Is(x) => {
-            if asked::bit_and_count(x) {
+            if asking::bit_and_count(x) {
                 return Request::Refused(3);
             }
-            if !asked::suits(v, x) {
+            if !write_asking::suits(v, x) {
                 return Request::Refused(4);
             }
-            let Size::Is(size) = data::size(v, bytes, x) else {
+            let Size::Is(size) = write_asking::size(v, bytes, x) else {
                 return Request::Refused(5);
             };
             if out.len() < 284 {
                 return Request::Refused(6);
             }
-            let p = asked::place(x, asked::last_address(x));
+            let p = asking::place(x, write_asking::last_address(x));
             let n = frame::put_typed(out, q, sequence, 0xAB, size, p);
-            let m = data::put(out, n, v, bytes, x);
+            let m = written_data::put(out, n, v, bytes, x);
             Request::Built(x, m)
         }
     }

@@ -1,5 +1,5 @@
 -- Laws of text that waits.
-use Prim.Native.Nat.{ℕ, suc, _+_, _-_, _/_, _%_, _≤_, _<_}
+use Prim.Native.Nat.{ℕ, _+_, _-_, _/_, _%_, _≤_, _<_}
 use mathlib.Core.Path.{_≡_, refl, ap, ap₂, sym, subst, _∙_}
 use mathlib.Core.List.{List, [], _∷_, _++_, append-assoc, append-nil}
 use mathlib.Core.Bool.{Bool, true, false, cond}
@@ -7,14 +7,12 @@ use native.Mathlib.Nat.{add-zero}
 use native.Mathlib.Omega.{arith}
 use lib.ListN.{length, take, drop, length-append, drop-of-length-le}
 use lib.Seq.{length-take-le, drop-at, drop-drop, drop-append-le, take-add, take-all}
-use lib.IntN.{ℤ, pos, negsuc}
 use mir.Syntax.{w64}
-use mir.Val.{Fits, SFits, toZ, ofZ}
-use mir.Facts.{toZ-ofZ}
+use mir.Val.{Fits}
 use Rattle.base.specs.Put.{Wrote, Puts}
 use Rattle.base.proofs.Put.{and-then, put-front, put-none, wrote-length}
 use Rattle.text.specs.Hex.{digit, hex}
-use Rattle.decimal.specs.Decimals.{decimal, signedText}
+use Rattle.decimal.specs.Decimals.{decimal}
 use Rattle.decimal.proofs.Decimals.{decimal-length}
 use Rattle.text.proofs.Pairs.{hex-length}
 use Rattle.base.specs.Chars.{bytes}
@@ -120,16 +118,6 @@ hex-small bs h = omega (arith, hex-length bs)
 
 pub decimal-small : (n : ℕ) → Fits w64 n → length (decimal n) ≤ 20
 decimal-small n f = decimal-length 19 n (omega (arith, f .fits))
-
-pub signed-small : (z : ℤ) → SFits w64 z → length (signedText z) ≤ 20
-unfolding signedText
-signed-small (pos n) f = decimal-length 19 n (omega (arith, f .sfits))
-signed-small (negsuc n) f = omega (arith, decimal-length 18 (suc n) (omega (arith, f .sfits)))
-
-pub signed-said : {out out′ : List ℕ} {p r : Place} (t x : List ℕ) (e : ℕ) (z : ℤ) → SFits w64 z → 20 ≤ length t → Puts t 0 (signedText (toZ w64 (ofZ w64 z))) e x → Said out p (take e x) r out′ → Said out p (signedText z) r out′
-signed-said {out} {out′} {p} {r} t x e z f h w s =
-    let v = subst (λ (y : ℤ). Puts t 0 (signedText y) e x) (toZ-ofZ f) w in
-    laid-said t x (signedText z) e v (omega (arith, signed-small z f)) s
 
 -- ---- digits in pieces
 hex-append : (bs cs : List ℕ) → hex (bs ++ cs) ≡ hex bs ++ hex cs

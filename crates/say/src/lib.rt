@@ -12,7 +12,7 @@ ghost use mathlib.Core.List.{[]};
 ghost use Prim.Native.Nat.{_+_, _<_, _≤_};
 ghost use lib.ListN.{length, take};
 ghost use Rattle.text.specs.Hex.{hex as Hex·hex};
-ghost use Rattle.decimal.specs.Decimals.{decimal, signedText};
+ghost use Rattle.decimal.specs.Decimals.{decimal};
 ghost use Rattle.say.specs.Said.{Said};
 use libc::STDOUT_FILENO;
 
@@ -125,13 +125,5 @@ pub fn number(out: &mut [u8], p: Place, n: u64) -> Place
 {
     let mut digits = [0u8; 20];
     let k = decimal::put_decimal(&mut digits, 0, n);
-    plain(out, p, &digits[..k])
-}
-
-pub fn signed(out: &mut [u8], p: Place, n: i64) -> Place
-    ensures { λ r. ⌜ Said (now (out .entry)) p (signedText n) r (now (out .exit)) ⌝ }
-{
-    let mut digits = [0u8; 20];
-    let k = decimal::put_signed(&mut digits, 0, n);
     plain(out, p, &digits[..k])
 }

@@ -30,7 +30,7 @@ use Rattle.query.proofs.Query.Laws as Q′
 use Rattle.table.proofs.Seen as N
 use Rattle.table.proofs.Seen.Laws as N′
 use Rattle.table.proofs.Surveying.{State, of-struct, Fold, ended as fold-ended}
-use Rattle.query.proofs.asked as ask′
+use Rattle.asked.proofs.asked as ask′
 
 -- the machine values of the structs
 abbrev pub slcv : Slc → Val

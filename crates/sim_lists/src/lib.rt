@@ -6,17 +6,10 @@ use decimal::Decimal;
 use text::Byte;
 use text::Bytes;
 
-// Which shape is missing, if any.
-pub enum Shape {
-    Good,
-    NoHex,
-    NoNumber,
-}
-
-// How many entries a list has, and its shape.
+// How many entries a list has; 0, or why it is none (`protocol`).
 pub struct List {
     pub n: usize,
-    pub shape: Shape,
+    pub why: u8,
 }
 
 // The end of the part that starts at a place: the next comma, or the end.
@@ -37,7 +30,7 @@ fn part_end(s: &[u8], at: usize) -> usize
 // A file: number, code, elements. What is above 32 bits is held to 4,294,967,295, which is refused alike.
 struct Wanted {
     row: [u32; 3],
-    shape: Shape,
+    why: u8,
 }
 
 fn held(n: u64) -> u32 {
@@ -47,30 +40,30 @@ fn held(n: u64) -> u32 {
     4294967295
 }
 
-fn no_file(shape: Shape) -> Wanted {
+fn no_file(why: u8) -> Wanted {
     Wanted {
         row: [0, 0, 0],
-        shape,
+        why,
     }
 }
 
 // CODE:number:elements, cut at its first two colons.
 fn file(s: &[u8]) -> Wanted {
     let Byte::Is(code) = text::code(text::part(s, b':', 0)) else {
-        return no_file(Shape::NoHex);
+        return no_file(protocol::HEX);
     };
     let Decimal::Is(number) = decimal::number(text::part(s, b':', 1)) else {
-        return no_file(Shape::NoNumber);
+        return no_file(protocol::NUMBER);
     };
     let Decimal::Is(elements) = decimal::number(text::part(s, b':', 2)) else {
-        return no_file(Shape::NoNumber);
+        return no_file(protocol::NUMBER);
     };
     if 3 < text::parts(s, b':') {
-        return no_file(Shape::NoNumber);
+        return no_file(protocol::NUMBER);
     }
     Wanted {
         row: [held(number), code as u32, held(elements)],
-        shape: Shape::Good,
+        why: 0,
     }
 }
 
@@ -84,38 +77,22 @@ fn keep(out: &mut [[u32; 3]], i: usize, f: [u32; 3]) {
 // The files of a field. Those behind the last row are only looked at: 256 numbers are all there are, so no list is accepted that has more.
 pub fn files(s: &[u8], out: &mut [[u32; 3]]) -> List {
     if text::is(s, b"-") {
-        return List {
-            n: 0,
-            shape: Shape::Good,
-        };
+        return List { n: 0, why: 0 };
     }
     let mut at = 0;
     let mut n = 0;
     while at <= s.len() {
         let e = part_end(s, at);
         let f = file(&s[at..e]);
-        let shape = f.shape;
-        if let Shape::NoHex = shape {
-            return List {
-                n,
-                shape: Shape::NoHex,
-            };
-        }
-        if let Shape::NoNumber = shape {
-            return List {
-                n,
-                shape: Shape::NoNumber,
-            };
+        if f.why != 0 {
+            return List { n, why: f.why };
         }
         let row = f.row;
         keep(out, n, row);
         n += 1;
         at = e + 1;
     }
-    List {
-        n,
-        shape: Shape::Good,
-    }
+    List { n, why: 0 }
 }
 
 // The bytes of a datalog entry: `.` for none, else digits.
@@ -157,10 +134,7 @@ fn counted(n: usize, longest: usize) -> usize {
 // The entries of a field, end to end. `space` is for the bytes of each.
 pub fn log(s: &[u8], space: &mut [u8], out: &mut [u8]) -> List {
     if text::is(s, b"-") {
-        return List {
-            n: 0,
-            shape: Shape::Good,
-        };
+        return List { n: 0, why: 0 };
     }
     let mut at = 0;
     let mut n = 0;
@@ -173,7 +147,7 @@ pub fn log(s: &[u8], space: &mut [u8], out: &mut [u8]) -> List {
         if !got.good {
             return List {
                 n,
-                shape: Shape::NoHex,
+                why: protocol::HEX,
             };
         }
         place = lay(out, place, &space[..k]);
@@ -183,6 +157,6 @@ pub fn log(s: &[u8], space: &mut [u8], out: &mut [u8]) -> List {
     }
     List {
         n: counted(n, longest),
-        shape: Shape::Good,
+        why: 0,
     }
 }

@@ -123,9 +123,9 @@ pub fn log(store: &[u8]) -> [u8; 16448] {
     copy
 }
 
-// One of the processor's own numbers: 0 files, 1 type_len, 2 log_at, 3 log_left.
+// One of the processor's own numbers: 1 files, 2 type_len, 3 log_at, 4 log_left.
 pub fn keep_number(store: &mut [u8], which: u8, n: u64) {
-    base::put_number(store, NUMBERS + 8 * (which as usize), 8, n);
+    base::put_number(store, NUMBERS - 8 + 8 * (which as usize), 8, n);
 }
 
 // A byte of the type text.

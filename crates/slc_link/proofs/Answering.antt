@@ -10,14 +10,14 @@ use Rattle.link_processor.proofs.SlcBuilt as B
 use Rattle.link_processor.proofs.SlcBuilt.Laws as B′
 use Rattle.link_processor.proofs.SlcDone as D
 use Rattle.link_processor.proofs.SlcDone.Laws as D′
-use Rattle.link_processor.proofs.elements.SlcElement as E
-use Rattle.link_processor.proofs.elements.SlcElement.Laws as E′
-use Rattle.link_processor.proofs.elements.SlcSetting as S
-use Rattle.link_processor.proofs.elements.SlcSetting.Laws as S′
-use Rattle.link_processor.proofs.elements.SlcSpot as P
-use Rattle.link_processor.proofs.elements.SlcSpot.Laws as P′
-use Rattle.link_processor.proofs.elements.SlcValue as A
-use Rattle.link_processor.proofs.elements.SlcValue.Laws as A′
+use Rattle.link_elements.proofs.SlcElement as E
+use Rattle.link_elements.proofs.SlcElement.Laws as E′
+use Rattle.link_access.proofs.SlcSetting as S
+use Rattle.link_access.proofs.SlcSetting.Laws as S′
+use Rattle.link_access.proofs.SlcSpot as P
+use Rattle.link_access.proofs.SlcSpot.Laws as P′
+use Rattle.link_elements.proofs.SlcValue as A
+use Rattle.link_elements.proofs.SlcValue.Laws as A′
 
 abbrev pub built : State
 built = of-struct B.the-type B′.the-laws B′.the-plain

@@ -4,14 +4,14 @@ use mathlib.Core.Path.{_≡_, refl, sym, subst, _∙_}
 use mathlib.Core.List.{List}
 use lib.ListN.{length}
 use Rattle.decode.specs.Decode.{decoded}
-use Rattle.encode.specs.Encode.{encoded}
+use Rattle.values.specs.Encode.{encoded}
 use Rattle.file_type.specs.declared.FileType.{FileType}
 use Rattle.file_type.specs.declared.Known.{Known}
 use Rattle.file_type.specs.declared.Known.the-variants as known
 use Rattle.file_type.specs.Table.{ofCode}
-use Rattle.link_processor.specs.declared.elements.SlcElement.{SlcElement}
-use Rattle.link_processor.specs.declared.elements.SlcValue.{SlcValue}
-use Rattle.link_processor.specs.Elements.{valueOf, refusalOf, numbersOf, StoresInNumbers, ReadsInNumbers, encodedIn, decodedIn}
+use Rattle.link_elements.specs.declared.SlcElement.{SlcElement}
+use Rattle.link_elements.specs.declared.SlcValue.{SlcValue}
+use Rattle.link_elements.specs.Elements.{valueOf, refusalOf, numbersOf, StoresInNumbers, ReadsInNumbers, encodedIn, decodedIn}
 
 module _ (code : ℕ) (k : Known) (e : k ≡ ofCode code) where
   module _ (v : SlcValue) (text l l′ : List ℕ) (r : ℕ) where

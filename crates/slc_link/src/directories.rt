@@ -2,14 +2,13 @@
 ghost use mathlib.Core.Path.{_≡_};
 ghost use lib.ListN.{length};
 ghost use Rattle.directory.specs.Rows.{listed};
-ghost use Rattle.directory.specs.Size.{sizeOf};
-ghost use Rattle.frame.specs.Requests.{directorySize, directoryRead};
-ghost use Rattle.link_requests.specs.Written.{Sends, Lists, sizeRecord};
+ghost use Rattle.directory_size.specs.Size.{sizeOf};
+ghost use Rattle.client_requests.specs.Requests.{directorySize, directoryRead};
+ghost use Rattle.link_written.specs.Written.{Sends, Lists, sizeRecord};
 ghost use Rattle.sys0.specs.Families.{sys0};
 use frame::Requestor;
-use link_requests::written;
-use link_requests::written::SlcDirectorySize;
-use link_requests::written::SlcWritten;
+use link_written::SlcDirectorySize;
+use link_written::SlcWritten;
 use sys0::Sys0Info;
 
 #[no_mangle]
@@ -28,7 +27,12 @@ pub extern "C" fn slc_file_directory_size_request(
 ) -> SlcWritten
     ensures { λ r. ⌜ Sends (directorySize info q sequence (now (out .entry))) (now (out .entry)) r (now (out .exit)) ⌝ }
 {
-    written::message_record(frame::file_directory_size_request(info, q, sequence, out))
+    link_written::message_record(client_requests::file_directory_size_request(
+        info,
+        q,
+        sequence,
+        out,
+    ))
 }
 
 #[no_mangle]
@@ -42,7 +46,7 @@ pub extern "C" fn slc_file_directory_read_request(
 ) -> SlcWritten
     ensures { λ r. ⌜ Sends (directoryRead «file_type» offset size q sequence (now (out .entry))) (now (out .entry)) r (now (out .exit)) ⌝ }
 {
-    written::message_record(frame::file_directory_read_request(
+    link_written::message_record(client_requests::file_directory_read_request(
         file_type,
         offset,
         size,
@@ -56,7 +60,7 @@ pub extern "C" fn slc_file_directory_read_request(
 pub extern "C" fn slc_parse_file_directory_size(raw: &[u8], info: Sys0Info) -> SlcDirectorySize
     ensures { λ r. ⌜ r ≡ sizeRecord (sizeOf (now (raw .entry)) (info .«size_const»)) ⌝ }
 {
-    written::size_record(directory::parse_file_directory_size(raw, info))
+    link_written::size_record(directory_size::parse_file_directory_size(raw, info))
 }
 
 #[no_mangle]
@@ -68,5 +72,10 @@ pub extern "C" fn slc_parse_file_directory(
 ) -> SlcWritten
     ensures { λ r. ⌜ Lists (listed «file_position» «row_size» (now (bytes .entry)) (length (now (out .entry)))) (now (out .entry)) r (now (out .exit)) ⌝ }
 {
-    written::listed_record(directory::parse_file_directory(file_position, row_size, bytes, out))
+    link_written::listed_record(directory::parse_file_directory(
+        file_position,
+        row_size,
+        bytes,
+        out,
+    ))
 }

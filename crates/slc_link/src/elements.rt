@@ -1,11 +1,11 @@
 // The bytes of one element.
 ghost use lib.ListN.{length};
 ghost use Rattle.file_type.specs.Table.{ofCode};
-ghost use Rattle.link_processor.specs.Elements.{StoresInNumbers, ReadsInNumbers, encodedIn, decodedIn};
+ghost use Rattle.link_elements.specs.Elements.{StoresInNumbers, ReadsInNumbers, encodedIn, decodedIn};
 use file_type::FileType;
 use file_type::Known;
-use link_processor::elements::SlcElement;
-use link_processor::elements::SlcValue;
+use link_elements::SlcElement;
+use link_elements::SlcValue;
 
 // Sets an element; `text` is the text of A and ST, or the name of the field. 19 to 23 where it is refused.
 #[no_mangle]
@@ -19,7 +19,7 @@ pub extern "C" fn slc_encode_element(
 {
     let k = FileType::from_code(code);
     match k {
-        Known::Is(t) => link_processor::elements::encode_element(t, value, text, element),
+        Known::Is(t) => link_elements::encode_element(t, value, text, element),
         Known::Unknown => 19,
     }
 }
@@ -31,7 +31,7 @@ pub extern "C" fn slc_decode_element(code: u8, element: &[u8], text: &mut [u8]) 
 {
     let k = FileType::from_code(code);
     match k {
-        Known::Is(t) => link_processor::elements::decode_element(t, element, text),
-        Known::Unknown => link_processor::elements::refusal(19),
+        Known::Is(t) => link_elements::decode_element(t, element, text),
+        Known::Unknown => link_elements::refusal(19),
     }
 }

@@ -3,14 +3,14 @@ ghost use lib.ListN.{length};
 ghost use Rattle.file_type.specs.Table.{ofCode};
 ghost use Rattle.model.specs.Build.{newOf, planOf};
 ghost use Rattle.model.specs.Plain.{stateOf};
-ghost use Rattle.link_processor.specs.Access.{readIn, setIn};
+ghost use Rattle.link_access.specs.Access.{readIn, setIn};
 ghost use Rattle.link_processor.specs.Answers.{SaysInNumbers, Raises};
-ghost use Rattle.link_processor.specs.Elements.{StoresInNumbers, ReadsInNumbers};
+ghost use Rattle.link_elements.specs.Elements.{StoresInNumbers, ReadsInNumbers};
+use link_access::SlcSetting;
+use link_access::SlcSpot;
+use link_elements::SlcElement;
 use link_processor::SlcBuilt;
 use link_processor::SlcDone;
-use link_processor::elements::SlcElement;
-use link_processor::elements::SlcSetting;
-use link_processor::elements::SlcSpot;
 use model::FileRecord;
 use model::Slc;
 
@@ -43,7 +43,7 @@ pub extern "C" fn slc_pccc(
 ) -> SlcDone
     ensures { λ r. ⌜ SaysInNumbers slc (now (table .entry)) (now (memory .entry)) (now (log .entry)) (now (command .entry)) (now (reply .entry)) r (now (memory .exit)) (now (reply .exit)) ⌝ }
 {
-    let q = query::asked(slc, command);
+    let q = asked::asked(slc, command);
     let s = table::survey(table, slc.files, q.number);
     if q.directory {
         let d = listing::directory(table, slc.files, q, s);
@@ -66,7 +66,7 @@ pub extern "C" fn slc_read(
     ensures { λ r. ⌜ ReadsInNumbers (readIn (ofCode (at .code)) (stateOf slc (now (table .entry)) (now (memory .entry)) (now (log .entry))) at (length (now (text .entry)))) (now (text .entry)) r (now (text .exit)) ⌝ }
 {
     let s = table::survey(table, slc.files, at.number);
-    link_processor::elements::read_element(slc, s, at, text, log, memory)
+    link_access::read_element(slc, s, at, text, log, memory)
 }
 
 // Sets an element; `text` is the text of A and ST, or the name of the field. 16 or 19 to 23 where it is refused.
@@ -82,5 +82,5 @@ pub extern "C" fn slc_set(
     ensures { λ r. ⌜ StoresInNumbers (setIn (ofCode (to .code)) (stateOf slc (now (table .entry)) (now (memory .entry)) (now (log .entry))) to (now (text .entry))) (now (memory .entry)) r (now (memory .exit)) ⌝ }
 {
     let s = table::survey(table, slc.files, to.number);
-    link_processor::elements::set_element(slc, s, to, memory, log, text)
+    link_access::set_element(slc, s, to, memory, log, text)
 }

@@ -43,11 +43,11 @@ use denote.Exit.{yes}
 use Rattle.model.specs.declared.FileRecord.{FileRecord}
 use Rattle.model.proofs.FileRecord as T
 use Rattle.model.proofs.FileRecord.Laws as T′
-use Rattle.build.specs.declared.Judged.{Judged}
+use Rattle.build_plan.specs.declared.Judged.{Judged}
 use Rattle.model.specs.Build.{planOf}
-use Rattle.build.specs.Plans.{judgedOf, laidOf}
-use Rattle.build.proofs.Judged as J
-use Rattle.build.proofs.Judged.Laws as J′
+use Rattle.build_plan.specs.Plans.{judgedOf, laidOf}
+use Rattle.build_plan.proofs.Judged as J
+use Rattle.build_plan.proofs.Judged.Laws as J′
 use Rattle.build.proofs.judge as judge
 use Rattle.table.proofs.Surveying.{State}
 use Rattle.shapes.proofs.Laying.{lay-ended, Lay, Lays}

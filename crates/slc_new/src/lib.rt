@@ -3,7 +3,7 @@ use model::Built;
 use model::FileRecord;
 ghost use mathlib.Core.Path.{_≡_};
 ghost use Rattle.model.specs.Build.{newOf, planOf, raised};
-ghost use Rattle.build.specs.Plans.{laidOf};
+ghost use Rattle.build_plan.specs.Plans.{laidOf};
 
 // The first `count` records of the files, from the table's start.
 pub fn lay(table: &mut [FileRecord], files: &[[u32; 3]], count: usize)
@@ -31,5 +31,5 @@ pub fn new(
 {
     let j = build::judge(files, text, log, count, table.len(), memory.len());
     lay(table, files, j.records);
-    build::finish(j, text, count, memory)
+    build_end::finish(j, text, count, memory)
 }

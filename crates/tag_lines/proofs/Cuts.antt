@@ -11,7 +11,7 @@ use lib.Seq.{take-all, take-at, length-take-le}
 use borrow.Author.Tests.{leb-true, leb-false}
 use Rattle.base.specs.Put.{put, Wrote}
 use Rattle.text.specs.Line.{before}
-use Rattle.tag_lines.specs.Lines.{lines, asked, answer, answers, tags}
+use Rattle.line_answer.specs.Lines.{lines, asked, answer, answers, tags}
 use Rattle.tag_lines.specs.Pieces.{ended, rest, last, held, keptBy, Calls, finished, fed, EveryCut}
 use Rattle.tag_lines.specs.declared.Line.{Line}
 use Rattle.tag_lines.proofs.Long.{asked-long, long-same}

@@ -1,6 +1,3 @@
 pub mod Cuts
-pub mod Lines
 pub mod Long
 pub mod Onward
-pub mod Rows
-pub mod Shown

@@ -8,9 +8,9 @@ use lib.Dec.{eqb}
 use lib.ListN.{length, take, length-append, length-take}
 use lib.Seq.{take-append-le, take-all}
 use borrow.Author.Tests.{lt-leb}
-use Rattle.address.specs.Spelling.{addressOf}
-use Rattle.request.specs.Request.{refused, onAddress}
-use Rattle.tag_lines.specs.Lines.{asked, answer, answers}
+use Rattle.spelling.specs.Spelling.{addressOf}
+use Rattle.asking.specs.Request.{refused, onAddress}
+use Rattle.line_answer.specs.Lines.{asked, answer, answers}
 use Rattle.tag_lines.specs.Pieces.{ended, rest, held}
 
 -- a line of more than 255 bytes, whatever they are

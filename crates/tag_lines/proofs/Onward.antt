@@ -13,9 +13,10 @@ use borrow.Author.Tests.{eq-eqb, ne-eqb, leb-true, leb-false}
 use Rattle.base.specs.Put.{put, Wrote, Puts}
 use Rattle.base.proofs.Parts.{drop-next}
 use Rattle.base.proofs.Put.{and-then, put-none, put-first}
-use Rattle.tag_lines.specs.Lines.{asked, answer, answers}
+use Rattle.line_answer.specs.Lines.{asked, answer, answers}
 use Rattle.tag_lines.specs.Pieces.{ended, rest, last, held, keeping, keptBy, Feeds, Finishes}
-use Rattle.tag_lines.specs.Steps.{Answered, Onward, Stepped, Ran}
+use Rattle.line_answer.specs.Answered.{Answered}
+use Rattle.tag_lines.specs.Steps.{Onward, Stepped, Ran}
 use Rattle.tag_lines.specs.declared.Line.{Line}
 use Rattle.tag_lines.specs.declared.Went.{Went}
 use Rattle.tag_lines.proofs.Long.{long-same, held-held}

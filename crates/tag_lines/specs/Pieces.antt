@@ -6,7 +6,7 @@ use mathlib.Core.Bool.{cond}
 use lib.Dec.{eqb}
 use lib.ListN.{length, take, drop, replicate}
 use Rattle.base.specs.Put.{put, Wrote}
-use Rattle.tag_lines.specs.Lines.{asked, answer, answers, tags}
+use Rattle.line_answer.specs.Lines.{asked, answer, answers, tags}
 use Rattle.tag_lines.specs.declared.Line.{Line}
 use Rattle.tag_lines.specs.declared.Fed.{Fed}
 

@@ -4,15 +4,9 @@ use mathlib.Core.Path.{_≡_}
 use mathlib.Core.List.{List, _∷_}
 use lib.ListN.{length, take}
 use Rattle.base.specs.Put.{Wrote}
-use Rattle.frame.specs.Frame.{Lays}
-use Rattle.tag_lines.specs.Lines.{asked, answer, answers}
+use Rattle.line_answer.specs.Lines.{answers}
 use Rattle.tag_lines.specs.Pieces.{ended, rest, held}
 use Rattle.tag_lines.specs.declared.Went.{Went}
-
--- the answer to a line, laid where there is room for it; it has at most 64 bytes
-pub record Answered (tag out : List ℕ) (at r : ℕ) (out′ : List ℕ) : Type 0 where
-  pub lays : Lays out at (answer (asked tag)) r out′
-  pub most : length (answer (asked tag)) ≤ 64
 
 -- What is left of the work gives what the whole gives: behind `l′`, with `s′` to come and `out′` in use up to `u′`, it is the work that was to
 -- be done behind `l` with `s`, `out` and `u`.

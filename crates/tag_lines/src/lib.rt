@@ -1,16 +1,10 @@
 // What the program `tags` does, as functions on slices: the input comes in pieces, cut anyhow, and memory is bounded.
 ghost use mathlib.Core.Path.{_≡_};
-ghost use mathlib.Core.List.{[], _∷_, _++_};
+ghost use mathlib.Core.List.{[]};
 ghost use Prim.Native.Nat.{_+_, _*_, _≤_};
 ghost use lib.ListN.{length};
-ghost use Rattle.frame.specs.Frame.{Lays};
-ghost use Rattle.request.specs.Request.{refused};
-ghost use Rattle.text.specs.Hex.{hex};
-ghost use Rattle.tag_lines.specs.Lines.{answer as Lines·answer};
 ghost use Rattle.tag_lines.specs.Pieces.{keeping, Feeds, Finishes};
-ghost use Rattle.tag_lines.specs.Steps.{Answered, Stepped, Ran};
-use frame::Requestor;
-use request::Request;
+ghost use Rattle.tag_lines.specs.Steps.{Stepped, Ran};
 
 // What is kept of a line that has not ended: its first bytes, up to 256.
 #[repr(C)]
@@ -45,42 +39,13 @@ impl Line {
     }
 }
 
-// `refused` and the number.
-fn put_refused(out: &mut [u8], at: usize, n: u8) -> usize
-    ensures { λ r. ⌜ Lays (now (out .entry)) at (Lines·answer (refused n)) r (now (out .exit)) ⌝ }
-{
-    let a = base::put_all(out, at, b"refused ");
-    let b = decimal::put_decimal(out, a, n as u64);
-    base::put_all(out, b, b"\n")
-}
-
-// A message in capital hexadecimal.
-fn put_message(out: &mut [u8], at: usize, message: &[u8]) -> usize
-    ensures { λ r. ⌜ Lays (now (out .entry)) at (hex (now (message .entry)) ++ (10 ∷ [])) r (now (out .exit)) ⌝ }
-{
-    let a = text::put_hex(out, at, message);
-    base::put_all(out, a, b"\n")
-}
-
-// The answer to a line.
-fn answer(tag: &[u8], out: &mut [u8], at: usize) -> usize
-    ensures { λ r. ⌜ Answered (now (tag .entry)) (now (out .entry)) at r (now (out .exit)) ⌝ }
-{
-    let mut message = [0u8; 27];
-    let asked = request::read_request(tag, Requestor::default(), 0, &mut message);
-    match asked {
-        Request::Refused(n) => put_refused(out, at, n),
-        Request::Built(_, n) => put_message(out, at, &message[..n]),
-    }
-}
-
 // One byte of the input. Behind 256 bytes of a line nothing is kept: it is refused all the same.
 fn step(b: u8, bytes: &mut [u8], kept: usize, out: &mut [u8], used: usize) -> Went
     requires { ⌜ (length (now bytes) ≡ 256) × (kept ≤ 256) × (used + 64 ≤ length (now out)) ⌝ }
     ensures { λ r. ⌜ Stepped b (now (bytes .entry)) kept (now (out .entry)) used r (now (bytes .exit)) (now (out .exit)) ⌝ }
 {
     if b == 10 {
-        let next = answer(&bytes[..kept], out, used);
+        let next = line_answer::answer(&bytes[..kept], out, used);
         return Went {
             kept: 0,
             used: next,
@@ -153,5 +118,5 @@ pub fn finish(line: Line, out: &mut [u8]) -> usize
     if out.len() < 64 {
         return 0;
     }
-    answer(&bytes[..kept], out, 0)
+    line_answer::answer(&bytes[..kept], out, 0)
 }

@@ -7,9 +7,9 @@ use Rattle.base.specs.Put.{put}
 use Rattle.parts.specs.Numbers.{digitRun, decimal, numberOf}
 use Rattle.parts.specs.Parts.{then, atEnd, orElse, ended, whole, here, oneByte, byte, letterByte, numeral, digits, digitsIn, afterByte, firstOf, countNumber, countOf, beforeByte}
 use Rattle.swap.specs.Text.{swapPairs, fitted, asciiText, stringText}
-use Rattle.address.specs.Spelling.{fileBefore, optionalBit, bitCount, ctNames, nameIn, cut, cuts, elementName, ct, lfbn, ignored, optionalPosition, slot, io, stOrA, sta, status, bits, orTry, lastForms, formOf, ascii, addressOf}
+use Rattle.spelling.specs.Spelling.{fileBefore, optionalBit, bitCount, ctNames, nameIn, cut, cuts, elementName, ct, lfbn, ignored, optionalPosition, slot, io, stOrA, sta, status, bits, orTry, lastForms, formOf, ascii, addressOf}
 use Rattle.frame.specs.Frame.{identity, commandHead, addressField, twoAddresses, threeAddresses, typed}
-use Rattle.request.specs.Request.{bitAndCount, readSize, readMessage, readAddress, onAddress, presetOrAccum, bitSuits, textSuits, suits, bitData, textData, supplied, lastAddress, writeMessage, writeData, writeAddress}
+use Rattle.asking.specs.Request.{bitAndCount, readSize, readMessage, readAddress, onAddress, presetOrAccum, bitSuits, textSuits, suits, bitData, textData, supplied, lastAddress, writeMessage, writeData, writeAddress}
 use Rattle.model.specs.Worked.{all, built, command, told, call, w9, w10, w11}
 use Rattle.worked_rows.specs.Worked.{Row, worked}
 

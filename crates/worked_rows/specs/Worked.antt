@@ -6,14 +6,14 @@ use mathlib.Core.List.{List, [], _∷_, map}
 use lib.ListN.{take, drop, replicate}
 use Rattle.base.specs.Chars.{bytes}
 use Rattle.file_type.specs.Table.{row}
-use Rattle.address.specs.declared.Address.{Address}
-use Rattle.address.specs.declared.Parsed.{Parsed}
-use Rattle.address.specs.declared.Parsed.the-variants as parsed
-use Rattle.address.specs.Spelling.{addressOf, orZero}
+use Rattle.spelling.specs.declared.Address.{Address}
+use Rattle.spelling.specs.declared.Parsed.{Parsed}
+use Rattle.spelling.specs.declared.Parsed.the-variants as parsed
+use Rattle.spelling.specs.Spelling.{addressOf, orZero}
 use Rattle.frame.specs.Frame.{defaultRequestor}
-use Rattle.request.specs.declared.Value.{Value}
-use Rattle.request.specs.declared.Value.the-variants as value
-use Rattle.request.specs.Request.{Asked, refused, sends, reading, writing}
+use Rattle.asking.specs.declared.Value.{Value}
+use Rattle.asking.specs.declared.Value.the-variants as value
+use Rattle.asking.specs.Request.{Asked, refused, sends, reading, writing}
 use Rattle.model.specs.Worked.{w9, w10, w11}
 
 -- bytes, numbers, or the number of a refusal

@@ -309,15 +309,21 @@ impl<'a> Fields<'a> {
             _ => return Err(Why::Kind),
         })
     }
-    /// A number; or a byte in the middle or at the end of what is there, the rest as it is.
+    /// A number; or numbers with a code among them or behind.
     fn spoil(&mut self) -> Result<Call, Why> {
-        let at = match self.next() {
-            b"record" => 2,
-            b"text" | b"log" => 1,
+        let (before, behind) = match self.next() {
+            b"record" => (2, 2),
+            b"text" | b"log" => (1, 0),
             _ => return self.number().map(|_| Call::Spoil),
         };
-        self.left = &self.left[at..];
-        self.code().map(|_| Call::Spoil)
+        for _ in 0..before {
+            self.number()?;
+        }
+        self.code()?;
+        for _ in 0..behind {
+            self.number()?;
+        }
+        Ok(Call::Spoil)
     }
     /// `-`, or CODE:number:elements joined by `,`. A missing part is an empty one.
     fn files(&mut self) -> Result<Vec<File>, Why> {

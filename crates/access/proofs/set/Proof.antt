@@ -1,7 +1,7 @@
 -- `access::set` surveys the table and hands what it has to `set_element` (`Accessing.antt`).
 use mathlib.Core.Path.{subst}
 use Rattle.base.specs.Outcome.{Outcome}
-use Rattle.encode.specs.Encode.{Stores}
+use Rattle.values.specs.Encode.{Stores}
 use Rattle.model.specs.Elements.{setOf}
 use Rattle.model.specs.Plain.{stateOf}
 use Rattle.element.specs.Access.{setBy}

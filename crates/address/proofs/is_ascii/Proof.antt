@@ -1,8 +1,8 @@
 use Prim.Native.Nat.{_-_}
 use mathlib.Core.Path.{_≡_, refl}
 use lib.ListN.{length, drop}
-use Rattle.address.specs.Spelling.{ascii}
-use Rattle.address.proofs.Forms.{ascii-end, ascii-stop, ascii-more}
+use Rattle.spelling.specs.Spelling.{ascii}
+use Rattle.spelling.proofs.Forms.{ascii-end, ascii-stop, ascii-more}
 use borrow.Author.Needs.{needs}
 use Rattle.address.proofs.is_ascii.Statement.{statement}
 use Rattle.address.proofs.is_ascii.Tie as tie

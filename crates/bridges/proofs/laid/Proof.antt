@@ -2,7 +2,7 @@ use Prim.Native.Nat.{_-_, _≤_, min}
 use mathlib.Core.Path.{_≡_, refl, ap, _∙_}
 use native.Mathlib.Omega.{arith}
 use borrow.Author.Needs.{needs}
-use Rattle.build.specs.Plans.{stored}
+use Rattle.build_plan.specs.Plans.{stored}
 use Rattle.bridges.proofs.Rows.{blank, none-yet, one-more, in-all}
 use Rattle.bridges.proofs.laid.Statement.{statement}
 use Rattle.bridges.proofs.laid.Tie as tie

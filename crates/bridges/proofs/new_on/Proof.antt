@@ -1,5 +1,5 @@
 use borrow.Author.Needs.{needs}
-use Rattle.build.proofs.Raising.{new-is}
+use Rattle.build_plan.proofs.Raising.{new-is}
 use Rattle.bridges.proofs.new_on.Statement.{statement}
 use Rattle.bridges.proofs.new_on.Tie as tie
 

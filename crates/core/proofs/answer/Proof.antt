@@ -1,4 +1,4 @@
-use Rattle.core.proofs.Replying.{answered-there}
+use Rattle.questions.proofs.Replying.{answered-there}
 use borrow.Author.Needs.{needs}
 use Rattle.core.proofs.answer.Statement.{statement}
 use Rattle.core.proofs.answer.Tie as tie

@@ -1,4 +1,4 @@
-use Rattle.core.proofs.Replying.{diagnosed}
+use Rattle.core.proofs.Access.{diagnosed}
 use borrow.Author.Needs.{needs}
 use Rattle.core.proofs.diagnose.Statement.{statement}
 use Rattle.core.proofs.diagnose.Tie as tie

@@ -1,6 +1,6 @@
 use native.Mathlib.Omega.{arith}
 use Rattle.located.proofs.Locating.{part-length}
-use Rattle.core.proofs.Replying.{fetched, fetched-bad}
+use Rattle.core.proofs.Access.{fetched, fetched-bad}
 use borrow.Author.Needs.{needs}
 use Rattle.core.proofs.fetch.Statement.{statement}
 use Rattle.core.proofs.fetch.Tie as tie

@@ -1,4 +1,5 @@
-use Rattle.core.proofs.Questions.{refused-by, responded, log-good, room-there, well-there}
+use Rattle.questions.proofs.Questions.{log-good, room-there, well-there}
+use Rattle.core.proofs.Responding.{refused-by, responded}
 use borrow.Author.Needs.{needs}
 use Rattle.core.proofs.respond.Statement.{statement}
 use Rattle.core.proofs.respond.Tie as tie

@@ -1,4 +1,4 @@
-use Rattle.core.proofs.Replying.{stored, stored-bad}
+use Rattle.core.proofs.Access.{stored, stored-bad}
 use borrow.Author.Needs.{needs}
 use Rattle.core.proofs.store.Statement.{statement}
 use Rattle.core.proofs.store.Tie as tie

@@ -1,6 +1,6 @@
 use Rattle.decode.proofs.Reading.{get-by, get-other, get-plain, get-short}
-use Rattle.encode.specs.declared.kind.Kind.the-variants as kind
-use Rattle.encode.proofs.ByKind.{room-for}
+use Rattle.values.specs.declared.kind.Kind.the-variants as kind
+use Rattle.values.proofs.ByKind.{room-for}
 use borrow.Author.Needs.{needs}
 use Rattle.decode.proofs.decode_element.Statement.{statement}
 use Rattle.decode.proofs.decode_element.Tie as tie

@@ -1,5 +1,5 @@
-use Rattle.encode.specs.declared.kind.Kind.the-variants as kind
-use Rattle.encode.proofs.ByKind.{room-for, set-short, set-by, set-other}
+use Rattle.values.specs.declared.kind.Kind.the-variants as kind
+use Rattle.values.proofs.ByKind.{room-for, set-short, set-by, set-other}
 use borrow.Author.Needs.{needs}
 use Rattle.encode.proofs.encode_element.Statement.{statement}
 use Rattle.encode.proofs.encode_element.Tie as tie

@@ -1,12 +1,12 @@
--- `processor::pccc` asks, surveys, and shows the directory or responds (crate `shapes`, `Choosing.antt`); that this is the model's `pcccOf` is `core`'s `right`.
+-- `processor::pccc` asks, surveys, and shows the directory or responds (crate `shapes`, `Choosing.antt`); that this is the model's `pcccOf` is `questions`' `right`.
 use contract.Running.{givenOf, tables, tablesOf}
 use denote.Triple.Spec.{tripleOf}
 use denote.Triple.Table.{entered, cited}
 use Rattle.model.specs.Pccc.{pcccOf}
 use Rattle.query.specs.Query.{queryOf}
-use Rattle.query.proofs.asked.Symbol as ask-def
-use Rattle.query.proofs.asked.Symbol.{name as #query·asked}
-use Rattle.query.proofs.asked.Met as ask-thm
+use Rattle.asked.proofs.asked.Symbol as ask-def
+use Rattle.asked.proofs.asked.Symbol.{name as #asked·asked}
+use Rattle.asked.proofs.asked.Met as ask-thm
 use Rattle.table.proofs.survey.Symbol as survey-def
 use Rattle.table.proofs.survey.Symbol.{name as #table·survey}
 use Rattle.table.proofs.survey.Met as survey-thm
@@ -15,11 +15,11 @@ use Rattle.listing.proofs.Filling.{Fills}
 use Rattle.listing.proofs.directory.Symbol as fill-def
 use Rattle.listing.proofs.directory.Symbol.{name as #listing·directory}
 use Rattle.listing.proofs.directory.Met as fill-thm
-use Rattle.core.specs.Calls.{respondOf, showOf}
-use Rattle.core.proofs.Right.{right}
-use Rattle.core.proofs.show.Symbol as show-def
-use Rattle.core.proofs.show.Symbol.{name as #core·show}
-use Rattle.core.proofs.show.Met as show-thm
+use Rattle.questions.specs.Calls.{respondOf, showOf}
+use Rattle.questions.proofs.Right.{right}
+use Rattle.shown.proofs.show.Symbol as show-def
+use Rattle.shown.proofs.show.Symbol.{name as #shown·show}
+use Rattle.shown.proofs.show.Met as show-thm
 use Rattle.core.proofs.respond.Symbol as core-def
 use Rattle.core.proofs.respond.Symbol.{name as #core·respond}
 use Rattle.core.proofs.respond.Met as core-thm
@@ -40,9 +40,9 @@ unfolding code.routine tablesOf
 pccc-spec 𝓤 H 𝓜 𝓖 𝓡 =
     entered 𝓤 H (tripleOf 𝓤 H (𝓖 .A) self.signature (self.spec 𝓤 H (𝓖 .A) (𝓜 .mem) (𝓡 .run)))
     (tables 𝓤 H 𝓜 𝓡 code.env .C) (tables 𝓤 H 𝓜 𝓡 code.env .Λ) #processor·pccc code.function (code.unfolded 𝓤 H 𝓜 𝓡)
-    (choose-meets done queryOf directoryOf showOf respondOf pcccOf fits #query·asked #table·survey #listing·directory #core·show #core·respond 𝓤 H (𝓖 .A) (givenOf 𝓤 H 𝓜 𝓖) (tablesOf 𝓤 H 𝓜 (tables 𝓤 H 𝓜 𝓡 code.env))
-    (cited 𝓤 H (Asks 𝓤 H (𝓖 .A) queryOf) 𝓜 𝓡 code.env #query·asked ask-def.routine code.calls-query·asked (ask-thm.met 𝓤 H 𝓜 𝓖 𝓡))
+    (choose-meets done queryOf directoryOf showOf respondOf pcccOf fits #asked·asked #table·survey #listing·directory #shown·show #core·respond 𝓤 H (𝓖 .A) (givenOf 𝓤 H 𝓜 𝓖) (tablesOf 𝓤 H 𝓜 (tables 𝓤 H 𝓜 𝓡 code.env))
+    (cited 𝓤 H (Asks 𝓤 H (𝓖 .A) queryOf) 𝓜 𝓡 code.env #asked·asked ask-def.routine code.calls-asked·asked (ask-thm.met 𝓤 H 𝓜 𝓖 𝓡))
     (cited 𝓤 H (Surveys 𝓤 H (𝓖 .A)) 𝓜 𝓡 code.env #table·survey survey-def.routine code.calls-table·survey (survey-thm.met 𝓤 H 𝓜 𝓖 𝓡))
     (cited 𝓤 H (Fills 𝓤 H (𝓖 .A) directoryOf) 𝓜 𝓡 code.env #listing·directory fill-def.routine code.calls-listing·directory (fill-thm.met 𝓤 H 𝓜 𝓖 𝓡))
-    (cited 𝓤 H (Shows done 𝓤 H (𝓖 .A) showOf) 𝓜 𝓡 code.env #core·show show-def.routine code.calls-core·show (show-thm.met 𝓤 H 𝓜 𝓖 𝓡))
+    (cited 𝓤 H (Shows done 𝓤 H (𝓖 .A) showOf) 𝓜 𝓡 code.env #shown·show show-def.routine code.calls-shown·show (show-thm.met 𝓤 H 𝓜 𝓖 𝓡))
     (cited 𝓤 H (Cores done 𝓤 H (𝓖 .A) respondOf) 𝓜 𝓡 code.env #core·respond core-def.routine code.calls-core·respond (core-thm.met 𝓤 H 𝓜 𝓖 𝓡)))

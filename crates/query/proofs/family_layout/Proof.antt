@@ -1,5 +1,5 @@
 use native.Mathlib.Omega.{arith}
-use Rattle.query.proofs.Functions.{first-narrow, layout-is, row-narrow, text-length}
+use Rattle.query.proofs.Family.{first-narrow, layout-is, row-narrow, text-length}
 use borrow.Author.Needs.{needs}
 use Rattle.query.proofs.family_layout.Statement.{statement}
 use Rattle.query.proofs.family_layout.Tie as tie

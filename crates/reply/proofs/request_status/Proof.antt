@@ -7,7 +7,6 @@ pub request-status-spec : {M : Type 1} → statement M
 request-status-spec =
     tie.close
     (tie.spec
-    (λ c. search needs)
     (λ c κs. search needs)
     (λ c. search needs)
     (λ c. search (status-missing, needs))

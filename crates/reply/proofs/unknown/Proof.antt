@@ -1,5 +1,6 @@
 use native.Mathlib.Omega.{arith}
-use Rattle.reply.proofs.Status.{no-room, told, hex-length}
+use Rattle.status_text.proofs.Texts.{no-room, told}
+use Rattle.reply.proofs.Status.{hex-length}
 use borrow.Author.Needs.{needs}
 use Rattle.reply.proofs.unknown.Statement.{statement}
 use Rattle.reply.proofs.unknown.Tie as tie

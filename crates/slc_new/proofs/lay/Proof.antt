@@ -8,7 +8,7 @@ use contract.Running.{givenOf, tables, tablesOf}
 use denote.Triple.Spec.{tripleOf}
 use denote.Triple.Table.{entered, cited}
 use Rattle.model.specs.declared.FileRecord.{FileRecord}
-use Rattle.build.specs.Plans.{recordOf, stored, laidOf}
+use Rattle.build_plan.specs.Plans.{recordOf, stored, laidOf}
 use Rattle.build.proofs.record_of.Symbol as make-def
 use Rattle.build.proofs.record_of.Symbol.{name as #build·record-of}
 use Rattle.build.proofs.record_of.Met as make-thm

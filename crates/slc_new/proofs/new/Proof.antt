@@ -6,14 +6,14 @@ use denote.Triple.Table.{entered, cited}
 use Rattle.model.specs.Build.{newOf, planOf, raised}
 use Rattle.model.proofs.Built as B
 use Rattle.model.proofs.Built.Laws as B′
-use Rattle.build.specs.Plans.{laidOf, ended, finishOf}
-use Rattle.build.proofs.Raising.{new-is}
+use Rattle.build_plan.specs.Plans.{laidOf, ended, finishOf}
+use Rattle.build_plan.proofs.Raising.{new-is}
 use Rattle.build.proofs.judge.Symbol as judge-def
 use Rattle.build.proofs.judge.Symbol.{name as #build·judge}
 use Rattle.build.proofs.judge.Met as judge-thm
-use Rattle.build.proofs.finish.Symbol as finish-def
-use Rattle.build.proofs.finish.Symbol.{name as #build·finish}
-use Rattle.build.proofs.finish.Met as finish-thm
+use Rattle.build_end.proofs.finish.Symbol as finish-def
+use Rattle.build_end.proofs.finish.Symbol.{name as #build-end·finish}
+use Rattle.build_end.proofs.finish.Met as finish-thm
 use Rattle.table.proofs.Surveying.{State, of-struct}
 use Rattle.shapes.proofs.Laying.{Lays}
 use Rattle.slc_new.proofs.Building.{Said, Owes, Fits, Judges, Finishes, new-meets}
@@ -43,7 +43,7 @@ unfolding code.routine tablesOf
 new-spec 𝓤 H 𝓜 𝓖 𝓡 =
     entered 𝓤 H (tripleOf 𝓤 H (𝓖 .A) self.signature (self.spec 𝓤 H (𝓖 .A) (𝓜 .mem) (𝓡 .run)))
     (tables 𝓤 H 𝓜 𝓡 code.env .C) (tables 𝓤 H 𝓜 𝓡 code.env .Λ) #slc-new·new code.function (code.unfolded 𝓤 H 𝓜 𝓡)
-    (new-meets built said owe right #build·judge #slc-new·lay #build·finish 𝓤 H (𝓖 .A) (givenOf 𝓤 H 𝓜 𝓖) (𝓜 .mem) (𝓡 .run) (tablesOf 𝓤 H 𝓜 (tables 𝓤 H 𝓜 𝓡 code.env))
+    (new-meets built said owe right #build·judge #slc-new·lay #build-end·finish 𝓤 H (𝓖 .A) (givenOf 𝓤 H 𝓜 𝓖) (𝓜 .mem) (𝓡 .run) (tablesOf 𝓤 H 𝓜 (tables 𝓤 H 𝓜 𝓡 code.env))
     (cited 𝓤 H (Judges 𝓤 H (𝓖 .A) (𝓜 .mem) (𝓡 .run)) 𝓜 𝓡 code.env #build·judge judge-def.routine code.calls-build·judge (judge-thm.met 𝓤 H 𝓜 𝓖 𝓡))
     (cited 𝓤 H (Lays 𝓤 H (𝓖 .A) laidOf) 𝓜 𝓡 code.env #slc-new·lay lay-def.routine code.calls-slc-new·lay (lay-thm.met 𝓤 H 𝓜 𝓖 𝓡))
-    (cited 𝓤 H (Finishes built 𝓤 H (𝓖 .A) said) 𝓜 𝓡 code.env #build·finish finish-def.routine code.calls-build·finish (finish-thm.met 𝓤 H 𝓜 𝓖 𝓡)))
+    (cited 𝓤 H (Finishes built 𝓤 H (𝓖 .A) said) 𝓜 𝓡 code.env #build-end·finish finish-def.routine code.calls-build-end·finish (finish-thm.met 𝓤 H 𝓜 𝓖 𝓡)))

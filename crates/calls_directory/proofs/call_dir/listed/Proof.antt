@@ -1,9 +1,9 @@
 use Prim.Native.Nat.{_-_, _≤_}
 use mathlib.Core.Path.{_≡_}
 use lib.ListN.{length}
+use borrow.Author.Needs.{needs}
 use Rattle.calls_directory.proofs.call_dir.listed.Statement.{statement}
 use Rattle.calls_directory.proofs.call_dir.listed.Tie as tie
-use borrow.Author.Needs.{needs}
 
 abbrev Inv-loop : tie.InvT-loop
 Inv-loop files n out₀ k q₀ i₀ t10 out q i = (i ≤ k) × (length out ≡ length out₀)

@@ -6,10 +6,10 @@ use Rattle.calls_element.proofs.shown.named_bits.Statement.{statement}
 use Rattle.calls_element.proofs.shown.named_bits.Tie as tie
 
 abbrev Inv-loop : tie.InvT-loop
-Inv-loop w out₀ n rest₀ q₀ i₀ out rest q i = (i ≤ n) × (rest < 65536) × (length out ≡ length out₀)
+Inv-loop w memory₀ at n rest₀ place₀ i₀ memory rest place i = (i ≤ n) × (rest < 65536) × (length memory ≡ length memory₀)
 
 abbrev μ-loop : tie.MeasureT-loop
-μ-loop w out₀ n rest₀ q₀ i₀ out rest q i = n - i
+μ-loop w memory₀ at n rest₀ place₀ i₀ memory rest place i = n - i
 
 pub named-bits-spec : {M : Type 1} → statement M
 named-bits-spec =

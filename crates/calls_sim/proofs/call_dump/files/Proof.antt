@@ -1,15 +1,15 @@
 use Prim.Native.Nat.{_-_, _≤_}
 use mathlib.Core.Path.{_≡_}
 use lib.ListN.{length}
+use borrow.Author.Needs.{needs}
 use Rattle.calls_sim.proofs.call_dump.files.Statement.{statement}
 use Rattle.calls_sim.proofs.call_dump.files.Tie as tie
-use borrow.Author.Needs.{needs}
 
 abbrev Inv-loop : tie.InvT-loop
-Inv-loop n store out₀ q₀ i₀ out q i = (i ≤ n) × (length out ≡ length out₀)
+Inv-loop n store memory₀ from at₀ i₀ memory at i = (i ≤ n) × (length memory ≡ length memory₀)
 
 abbrev μ-loop : tie.MeasureT-loop
-μ-loop n store out₀ q₀ i₀ out q i = n - i
+μ-loop n store memory₀ from at₀ i₀ memory at i = n - i
 
 pub files-spec : {M : Type 1} → statement M
 files-spec =

@@ -1,4 +1,4 @@
-use Rattle.encode.proofs.Setting.{named-placed, named-stored, on-field, on-words}
+use Rattle.encode.proofs.Setting.{on-field, on-words}
 use borrow.Author.Needs.{needs}
 use Rattle.encode.proofs.set.fields.Statement.{statement}
 use Rattle.encode.proofs.set.fields.Tie as tie
@@ -14,11 +14,10 @@ fields-spec =
     (λ c κs. search needs)
     (λ c. search needs)
     (λ c κs. search needs)
-    (λ c κs. search (named-placed, needs))
     (λ c. search needs)
     (λ c. search needs)
     (λ c. search needs)
     (λ c. search needs)
     (λ c. search (on-words, needs))
     (λ c. search needs)
-    (λ c. search (on-field, named-stored, needs)))
+    (λ c. search (on-field, needs)))

@@ -4,8 +4,8 @@ use contract.Running.{givenOf, tables, tablesOf}
 use denote.Triple.Spec.{tripleOf}
 use denote.Triple.Table.{entered, cited}
 use Rattle.model.specs.Build.{Raised, newOf, planOf, raised}
-use Rattle.build.specs.Plans.{laidOf, Ended, finishOf}
-use Rattle.build.proofs.Raising.{new-is}
+use Rattle.build_plan.specs.Plans.{laidOf, Ended, finishOf}
+use Rattle.build_plan.proofs.Raising.{new-is}
 use Rattle.build.proofs.judge.Symbol as judge-def
 use Rattle.build.proofs.judge.Symbol.{name as #build·judge}
 use Rattle.build.proofs.judge.Met as judge-thm

@@ -8,9 +8,9 @@ use Rattle.model.specs.declared.Done.{Done}
 use Rattle.model.specs.Pccc.{Left, pcccOf}
 use Rattle.query.specs.declared.Query.{Query}
 use Rattle.query.specs.Query.{queryOf}
-use Rattle.query.proofs.asked.Symbol as ask-def
-use Rattle.query.proofs.asked.Symbol.{name as #query·asked}
-use Rattle.query.proofs.asked.Met as ask-thm
+use Rattle.asked.proofs.asked.Symbol as ask-def
+use Rattle.asked.proofs.asked.Symbol.{name as #asked·asked}
+use Rattle.asked.proofs.asked.Met as ask-thm
 use Rattle.table.specs.declared.Seen.{Seen}
 use Rattle.table.specs.Survey.{surveyOf}
 use Rattle.table.proofs.survey.Symbol as survey-def
@@ -21,8 +21,8 @@ use Rattle.listing.proofs.Filling.{Fills}
 use Rattle.listing.proofs.directory.Symbol as fill-def
 use Rattle.listing.proofs.directory.Symbol.{name as #listing·directory}
 use Rattle.listing.proofs.directory.Met as fill-thm
-use Rattle.core.specs.Calls.{respondOf, showOf}
-use Rattle.core.proofs.Right.{right}
+use Rattle.questions.specs.Calls.{respondOf, showOf}
+use Rattle.questions.proofs.Right.{right}
 use Rattle.processor.proofs.Filled.{directory-fills}
 use Rattle.shapes.proofs.Asking.{Asks, Surveys, Cores, CoreDef, CallDef}
 use Rattle.shapes.proofs.Choosing.{Fits, Shows, ShowDef, choose-meets}
@@ -65,8 +65,8 @@ unfolding code.routine tablesOf
 slc-pccc-spec 𝓤 H 𝓜 𝓖 𝓡 =
     entered 𝓤 H (tripleOf 𝓤 H (𝓖 .A) self.signature (self.spec 𝓤 H (𝓖 .A) (𝓜 .mem) (𝓡 .run)))
     (tables 𝓤 H 𝓜 𝓡 code.env .C) (tables 𝓤 H 𝓜 𝓡 code.env .Λ) #slc-link·slc-pccc code.function (code.unfolded 𝓤 H 𝓜 𝓡)
-    (choose-meets done queryOf directoryOf shown out def fits #query·asked #table·survey #listing·directory #link-processor·show #link-processor·respond 𝓤 H (𝓖 .A) (givenOf 𝓤 H 𝓜 𝓖) (tablesOf 𝓤 H 𝓜 (tables 𝓤 H 𝓜 𝓡 code.env))
-    (cited 𝓤 H (Asks 𝓤 H (𝓖 .A) queryOf) 𝓜 𝓡 code.env #query·asked ask-def.routine code.calls-query·asked (ask-thm.met 𝓤 H 𝓜 𝓖 𝓡))
+    (choose-meets done queryOf directoryOf shown out def fits #asked·asked #table·survey #listing·directory #link-processor·show #link-processor·respond 𝓤 H (𝓖 .A) (givenOf 𝓤 H 𝓜 𝓖) (tablesOf 𝓤 H 𝓜 (tables 𝓤 H 𝓜 𝓡 code.env))
+    (cited 𝓤 H (Asks 𝓤 H (𝓖 .A) queryOf) 𝓜 𝓡 code.env #asked·asked ask-def.routine code.calls-asked·asked (ask-thm.met 𝓤 H 𝓜 𝓖 𝓡))
     (cited 𝓤 H (Surveys 𝓤 H (𝓖 .A)) 𝓜 𝓡 code.env #table·survey survey-def.routine code.calls-table·survey (survey-thm.met 𝓤 H 𝓜 𝓖 𝓡))
     (cited 𝓤 H (Fills 𝓤 H (𝓖 .A) directoryOf) 𝓜 𝓡 code.env #listing·directory fill-def.routine code.calls-listing·directory (fill-thm.met 𝓤 H 𝓜 𝓖 𝓡))
     (cited 𝓤 H (Shows done 𝓤 H (𝓖 .A) shown) 𝓜 𝓡 code.env #link-processor·show show-def.routine code.calls-link-processor·show (show-thm.met 𝓤 H 𝓜 𝓖 𝓡))

@@ -1,5 +1,0 @@
-pub mod Forms
-pub mod Ranges
-pub mod Reading
-pub mod Rows
-pub mod Timers

@@ -1,7 +1,0 @@
-use Rattle.directory.proofs.Laying.{number-kept, number-one, number-zero}
-use borrow.Author.Needs.{needs}
-use Rattle.directory.proofs.rows.number_of.Statement.{statement}
-use Rattle.directory.proofs.rows.number_of.Tie as tie
-
-pub number-of-spec : {M : Type 1} → statement M
-number-of-spec = tie.close (tie.spec (λ c. search (number-kept, needs)) (λ c κs. search needs) (λ c. search (number-one, needs)) (λ c. search (number-zero, needs)))

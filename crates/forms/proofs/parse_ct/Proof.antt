@@ -1,0 +1,28 @@
+use Rattle.spelling.specs.Spelling.{ct}
+use Rattle.parts.proofs.Reading.{above, at-most}
+use Rattle.spelling.proofs.Forms.{no-form, a-form}
+use Rattle.spelling.proofs.Reading.{forms}
+use borrow.Author.Needs.{needs}
+use Rattle.forms.proofs.parse_ct.Statement.{statement}
+use Rattle.forms.proofs.parse_ct.Tie as tie
+
+pub parse-ct-spec : {M : Type 1} → statement M
+unfolding ct
+parse-ct-spec =
+    tie.close
+    (tie.spec
+    (λ c κs. search needs)
+    (λ c. search needs)
+    (λ c. search needs)
+    (λ c. search (forms, no-form, needs) depth 8)
+    (λ c κs. search needs)
+    (λ c. search needs)
+    (λ c. search needs)
+    (λ c. search (forms, no-form, needs) depth 8)
+    (λ c κs. search needs)
+    (λ c. search needs)
+    (λ c. search needs)
+    (λ c. search (forms, no-form, needs) depth 8)
+    (λ c. search (forms, no-form, above, needs) depth 8)
+    (λ c. search needs)
+    (λ c. search (forms, a-form, at-most, needs) depth 8))

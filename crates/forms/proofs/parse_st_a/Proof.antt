@@ -1,0 +1,31 @@
+use Rattle.spelling.specs.Spelling.{sta}
+use Rattle.spelling.proofs.Forms.{no-form, finish, same}
+use Rattle.spelling.proofs.Reading.{forms}
+use borrow.Author.Needs.{needs}
+use Rattle.forms.proofs.parse_st_a.Statement.{statement}
+use Rattle.forms.proofs.parse_st_a.Tie as tie
+
+pub parse-st-a-spec : {M : Type 1} → statement M
+unfolding sta
+parse-st-a-spec =
+    tie.close
+    (tie.spec
+    (λ c κs. search needs)
+    (λ c. search needs)
+    (λ c. search needs)
+    (λ c. search (forms, no-form, needs) depth 8)
+    (λ c κs. search needs)
+    (λ c. search needs)
+    (λ c. search needs)
+    (λ c. search (forms, no-form, needs) depth 8)
+    (λ c κs. search needs)
+    (λ c. search needs)
+    (λ c. search needs)
+    (λ c. search (forms, no-form, needs) depth 8)
+    (λ c κs. search needs)
+    (λ c. search needs)
+    (λ c. search needs)
+    (λ c. search (forms, no-form, needs) depth 8)
+    (λ c κs. search needs)
+    (λ c κs. search needs)
+    (λ c. search (forms, finish, same, needs) depth 8))

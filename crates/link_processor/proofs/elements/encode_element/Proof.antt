@@ -1,9 +1,0 @@
-use Rattle.link_processor.proofs.Accesses.{encoded-in}
-use borrow.Author.Needs.{needs}
-use Rattle.link_processor.proofs.elements.encode_element.Statement.{statement}
-use Rattle.link_processor.proofs.elements.encode_element.Tie as tie
-
-pub encode-element-spec : {M : Type 1} → statement M
-encode-element-spec =
-    tie.close
-    (tie.spec (λ c κs. search needs) (λ c κs. search needs) (λ c κs. search needs) (λ c. search needs) (λ c. search (encoded-in, needs)))

@@ -1,7 +1,0 @@
-use Rattle.link_processor.proofs.Numbers.{told-fields}
-use borrow.Author.Needs.{needs}
-use Rattle.link_processor.proofs.elements.fields.Statement.{statement}
-use Rattle.link_processor.proofs.elements.fields.Tie as tie
-
-pub fields-spec : {M : Type 1} → statement M
-fields-spec = tie.close (tie.spec (λ c κs. search needs) (λ c. search (told-fields, needs)))

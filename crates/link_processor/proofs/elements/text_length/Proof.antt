@@ -1,7 +1,0 @@
-use Rattle.link_processor.proofs.Numbers.{told-text}
-use borrow.Author.Needs.{needs}
-use Rattle.link_processor.proofs.elements.text_length.Statement.{statement}
-use Rattle.link_processor.proofs.elements.text_length.Tie as tie
-
-pub text-length-spec : {M : Type 1} → statement M
-text-length-spec = tie.close (tie.spec (λ c κs. search needs) (λ c. search (told-text, needs)))

@@ -1,0 +1,20 @@
+use Rattle.spelling.specs.Spelling.{fileBefore}
+use Rattle.spelling.proofs.Reading.{forms}
+use borrow.Author.Needs.{needs}
+use Rattle.phrases.proofs.file_then.Statement.{statement}
+use Rattle.phrases.proofs.file_then.Tie as tie
+
+pub file-then-spec : {M : Type 1} → statement M
+unfolding fileBefore
+file-then-spec =
+    tie.close
+    (tie.spec
+    (λ c κs. search needs)
+    (λ c. search needs)
+    (λ c. search needs)
+    (λ c. search (forms, needs))
+    (λ c κs. search needs)
+    (λ c. search needs)
+    (λ c. search needs)
+    (λ c. search (forms, needs))
+    (λ c. search (forms, needs)))

@@ -1,0 +1,17 @@
+use Rattle.spelling.proofs.Forms.{ignored-none, ignored-some}
+use Rattle.spelling.proofs.Reading.{forms}
+use borrow.Author.Needs.{needs}
+use Rattle.phrases.proofs.ignore_number.Statement.{statement}
+use Rattle.phrases.proofs.ignore_number.Tie as tie
+
+pub ignore-number-spec : {M : Type 1} → statement M
+ignore-number-spec =
+    tie.close
+    (tie.spec
+    (λ c κs. search needs)
+    (λ c. search (forms, ignored-none, needs))
+    (λ c κs. search needs)
+    (λ c. search needs)
+    (λ c. search needs)
+    (λ c. search (forms, ignored-some, needs))
+    (λ c. search (forms, ignored-some, needs)))

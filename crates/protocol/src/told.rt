@@ -1,0 +1,79 @@
+// The answer to a line.
+use say::Place;
+
+// Why a line is none of the protocol.
+pub const LINE: u8 = 1;
+
+pub const CALL: u8 = 2;
+
+pub const FIELDS: u8 = 3;
+
+pub const KIND: u8 = 4;
+
+pub const HEX: u8 = 5;
+
+pub const NUMBER: u8 = 6;
+
+pub enum Told {
+    // The line is none of the protocol.
+    Error(u8),
+    Refused(u8),
+    Done,
+    Nothing,
+    // So many bytes at the memory's start; so many bytes of text there, which begins with its blank.
+    Bytes(usize),
+    Text(usize),
+}
+
+// Is the line's first field no call?
+pub fn is_no_call(told: Told) -> bool {
+    match told {
+        Told::Error(why) => why == CALL,
+        Told::Refused(n) => false,
+        Told::Done => false,
+        Told::Nothing => false,
+        Told::Bytes(n) => false,
+        Told::Text(n) => false,
+    }
+}
+
+fn say_error(why: u8, out: &mut [u8], p: Place) -> Place {
+    if why == FIELDS {
+        return say::error(out, p, b"fields");
+    }
+    if why == HEX {
+        return say::error(out, p, b"hex");
+    }
+    if why == NUMBER {
+        return say::error(out, p, b"number");
+    }
+    say_other_error(why, out, p)
+}
+
+fn say_other_error(why: u8, out: &mut [u8], p: Place) -> Place {
+    if why == KIND {
+        return say::error(out, p, b"kind");
+    }
+    if why == CALL {
+        return say::error(out, p, b"call");
+    }
+    say::error(out, p, b"line")
+}
+
+fn say_text(text: &[u8], out: &mut [u8], p: Place) -> Place {
+    let a = say::plain(out, p, b"ok");
+    let b = say::plain(out, a, text);
+    say::plain(out, b, b"\n")
+}
+
+// An answer whose bytes or text stand in `memory`.
+pub fn say_told(told: Told, memory: &[u8], out: &mut [u8], p: Place) -> Place {
+    match told {
+        Told::Error(why) => say_error(why, out, p),
+        Told::Refused(n) => say::refused(out, p, n),
+        Told::Done => say::plain(out, p, b"ok\n"),
+        Told::Nothing => say::plain(out, p, b"ok none\n"),
+        Told::Bytes(n) => say::ok_bytes(out, p, &memory[..text::within(n, memory)]),
+        Told::Text(n) => say_text(&memory[..text::within(n, memory)], out, p),
+    }
+}

@@ -1,7 +1,0 @@
-use Rattle.reply.proofs.Status.{no-room, put-told}
-use borrow.Author.Needs.{needs}
-use Rattle.reply.proofs.write.Statement.{statement}
-use Rattle.reply.proofs.write.Tie as tie
-
-pub write-spec : {M : Type 1} → statement M
-write-spec = tie.close (tie.spec (λ c. search (no-room, needs)) (λ c κs. search needs) (λ c. search needs) (λ c. search (put-told, needs)))

@@ -1,0 +1,4 @@
+pub mod Forms
+pub mod Ranges
+pub mod Reading
+pub mod Rows

@@ -1,0 +1,24 @@
+use Rattle.frame.proofs.Laid.{lays}
+use Rattle.asking.proofs.Supplied.{bool-laid, raw-laid, text-laid}
+use borrow.Author.Needs.{needs}
+use Rattle.written_data.proofs.put.Statement.{statement}
+use Rattle.written_data.proofs.put.Tie as tie
+
+pub put-spec : {M : Type 1} → statement M
+put-spec =
+    tie.close
+    (tie.spec
+    (λ c. search needs)
+    (λ c κs. search needs)
+    (λ c. search needs)
+    (λ c κs. search needs)
+    (λ c κs. search needs)
+    (λ c. search needs)
+    (λ c κs. search needs)
+    (λ c κs. search needs)
+    (λ c. search needs)
+    (λ c. search (raw-laid, lays, needs))
+    (λ c. search needs)
+    (λ c. search (bool-laid, needs))
+    (λ c. search needs)
+    (λ c. search (text-laid, needs)))
