@@ -1,21 +1,15 @@
-// The call of the line protocol on addresses (module 3). `space` is for the bytes of fields, `memory` for the answer.
+// The call of the line protocol on addresses (module 3). The bytes of fields stand in `space`, the answer in `memory`.
 use address::Address;
 use address::Maybe;
 use address::Parsed;
+use protocol::Args;
 use protocol::Told;
 
 // `tag TAG`
-pub fn answer(call: &[u8], line: &[u8], space: &mut [u8], memory: &mut [u8]) -> Told {
-    if !text::is(call, b"tag") {
-        return Told::Error(protocol::CALL);
-    }
-    let a = protocol::read(line, b"x", space);
-    if a.why != 0 {
-        return Told::Error(a.why);
-    }
+pub fn answer(a: Args, space: &[u8], memory: &mut [u8]) -> Told {
     match address::parse_tag(protocol::part(space, a, 0)) {
         Parsed::Refused(k) => Told::Refused(k),
-        Parsed::Is(a) => Told::Text(shown(a, memory)),
+        Parsed::Is(x) => Told::Text(shown(x, memory)),
     }
 }
 

@@ -4,44 +4,32 @@ ghost use Prim.Native.Nat.{_≤_};
 ghost use lib.ListN.{length, take};
 use directory::Listed;
 use protocol::Args;
-use protocol::Told;
 use say::Place;
 
-// The output has at most `room` files.
-pub fn say_dir(line: &[u8], room: usize, space: &mut [u8], out: &mut [u8], p: Place) -> Place {
-    let a = protocol::read(line, b"nnx", space);
-    if a.why != 0 {
-        return protocol::say_told(Told::Error(a.why), b"", out, p);
-    }
+pub fn say_dir(a: Args, space: &[u8], out: &mut [u8], p: Place) -> Place {
     let bytes = protocol::part(space, a, 2);
     if bytes.len() <= 512 {
-        return few(a, bytes, room, out, p);
+        return few(a, bytes, out, p);
     }
-    many(a, bytes, room, out, p)
+    many(a, bytes, out, p)
 }
 
 // No directory has more files than bytes, so these have room for all.
-fn few(a: Args, bytes: &[u8], room: usize, out: &mut [u8], p: Place) -> Place {
+fn few(a: Args, bytes: &[u8], out: &mut [u8], p: Place) -> Place {
     let none = [0u32; 4];
     let mut files = [none; 512];
-    parsed(a, bytes, room, &mut files, out, p)
+    parsed(a, bytes, &mut files, out, p)
 }
 
-fn many(a: Args, bytes: &[u8], room: usize, out: &mut [u8], p: Place) -> Place {
+fn many(a: Args, bytes: &[u8], out: &mut [u8], p: Place) -> Place {
     let none = [0u32; 4];
     let mut files = [none; 65535];
-    parsed(a, bytes, room, &mut files, out, p)
+    parsed(a, bytes, &mut files, out, p)
 }
 
-fn parsed(
-    a: Args,
-    bytes: &[u8],
-    room: usize,
-    files: &mut [[u32; 4]],
-    out: &mut [u8],
-    p: Place,
-) -> Place {
-    let n = within(room, files);
+// The output has `room` files.
+fn parsed(a: Args, bytes: &[u8], files: &mut [[u32; 4]], out: &mut [u8], p: Place) -> Place {
+    let n = within(a.room, files);
     let first = protocol::number(a, 0) as usize;
     let size = protocol::number(a, 1) as usize;
     match directory::parse_file_directory(first, size, bytes, &mut files[..n]) {

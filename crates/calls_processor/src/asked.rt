@@ -58,3 +58,13 @@ pub fn spot(a: Args) -> Spot {
         element: protocol::number(a, 2) as usize,
     }
 }
+
+// The same with the value that it is set to.
+pub fn setting(a: Args) -> Setting {
+    Setting {
+        number: number(protocol::number(a, 1)),
+        file_type: file_type(protocol::byte(a, 0)),
+        element: protocol::number(a, 2) as usize,
+        value: calls_element::value_of(a),
+    }
+}

@@ -1,96 +1,45 @@
-// The calls of the line protocol on requests (module 3). A request is built in `message`; `space` is for the bytes of fields.
-mod call_write;
-
+// The calls of the line protocol on requests (module 3). The bytes of fields stand in `space`.
 use client_requests::Message;
 use frame::Requestor;
 use protocol::Args;
 use protocol::Told;
+use protocol::calls;
 use request::Request;
+use request::Value;
 
-const READ: u8 = 1;
-
-const WRITE: u8 = 2;
-
-const TYPE: u8 = 3;
-
-const DATALOG: u8 = 4;
-
-const SIZE: u8 = 5;
-
-const PART: u8 = 6;
-
-fn which(call: &[u8]) -> u8 {
-    if text::is(call, b"read") {
-        return READ;
-    }
-    if text::is(call, b"write") {
-        return WRITE;
-    }
-    if text::is(call, b"proc") {
-        return TYPE;
-    }
-    which_other(call)
+// `read TAG REQ SEQ`, `proc REQ SEQ`, `datalogreq QUEUE`, `dirsizereq TYPETEXT REQ SEQ`, `dirreadreq FILETYPE OFFSET SIZE REQ SEQ`,
+// `write TAG REQ SEQ KIND VALUE`. A request is built in the first `room` bytes of `memory`.
+pub fn answer(a: Args, space: &[u8], memory: &mut [u8]) -> Told {
+    let n = text::within(a.room, memory);
+    asked(a, space, &mut memory[..n])
 }
 
-fn which_other(call: &[u8]) -> u8 {
-    if text::is(call, b"datalogreq") {
-        return DATALOG;
-    }
-    if text::is(call, b"dirsizereq") {
-        return SIZE;
-    }
-    if text::is(call, b"dirreadreq") {
-        return PART;
-    }
-    0
-}
-
-pub fn answer(call: &[u8], line: &[u8], space: &mut [u8], message: &mut [u8]) -> Told {
-    let k = which(call);
-    if k == 0 {
-        return Told::Error(protocol::CALL);
-    }
-    if k == WRITE {
-        return call_write::answer(line, space, message);
-    }
-    let a = args(k, line, space);
-    if a.why != 0 {
-        return Told::Error(a.why);
-    }
-    asked(k, a, space, message)
-}
-
-// `read TAG REQ SEQ`, `dirsizereq TYPETEXT REQ SEQ`, `proc REQ SEQ`, `datalogreq QUEUE`, `dirreadreq FILETYPE OFFSET SIZE REQ SEQ`
-fn args(k: u8, line: &[u8], space: &mut [u8]) -> Args {
-    if k == TYPE {
-        return protocol::read(line, b"qs", space);
-    }
-    if k == DATALOG {
-        return protocol::read(line, b"b", space);
-    }
-    if k == PART {
-        return protocol::read(line, b"cnbqs", space);
-    }
-    protocol::read(line, b"xqs", space)
-}
-
-fn asked(k: u8, a: Args, space: &[u8], message: &mut [u8]) -> Told {
-    if k == READ {
+fn asked(a: Args, space: &[u8], message: &mut [u8]) -> Told {
+    let k = a.call;
+    if k == calls::READ {
         return read(a, space, message);
     }
-    if k == TYPE {
+    if k == calls::WRITE {
+        return write(a, space, message);
+    }
+    if k == calls::PROC {
         return processor_type(a, space, message);
     }
-    if k == DATALOG {
+    other(a, space, message)
+}
+
+fn other(a: Args, space: &[u8], message: &mut [u8]) -> Told {
+    let k = a.call;
+    if k == calls::DATALOG_REQUEST {
         return of_message(client_requests::datalog_request(protocol::byte(a, 0), message));
     }
-    if k == SIZE {
+    if k == calls::SIZE_REQUEST {
         return directory_size(a, space, message);
     }
     directory_read(a, space, message)
 }
 
-pub fn of_request(r: Request) -> Told {
+fn of_request(r: Request) -> Told {
     match r {
         Request::Refused(k) => Told::Refused(k),
         Request::Built(a, n) => Told::Bytes(n),
@@ -112,7 +61,7 @@ fn byte(s: &[u8], i: usize) -> u8 {
 }
 
 // Two vendor bytes and four serial bytes.
-pub fn requestor(s: &[u8]) -> Requestor {
+fn requestor(s: &[u8]) -> Requestor {
     Requestor {
         vid: [byte(s, 0), byte(s, 1)],
         vsn: [byte(s, 2), byte(s, 3), byte(s, 4), byte(s, 5)],
@@ -123,6 +72,25 @@ fn read(a: Args, space: &[u8], message: &mut [u8]) -> Told {
     let q = requestor(protocol::part(space, a, 1));
     let tag = protocol::part(space, a, 0);
     of_request(request::read_request(tag, q, protocol::word(a, 2), message))
+}
+
+// The value of the fields KIND VALUE: `raw BYTES`, `text LATIN1`, `bool 0` or `bool 1`.
+fn value_of(kind: u8, n: u64) -> Value {
+    if kind == 1 {
+        return Value::Raw;
+    }
+    if kind == 2 {
+        return Value::Text;
+    }
+    Value::Bool(n == 1)
+}
+
+fn write(a: Args, space: &[u8], message: &mut [u8]) -> Told {
+    let v = value_of(a.kind, protocol::number(a, 4));
+    let q = requestor(protocol::part(space, a, 1));
+    let tag = protocol::part(space, a, 0);
+    let given = protocol::part(space, a, 4);
+    of_request(request::write_request(tag, v, given, q, protocol::word(a, 2), message))
 }
 
 fn processor_type(a: Args, space: &[u8], message: &mut [u8]) -> Told {

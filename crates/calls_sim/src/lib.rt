@@ -1,79 +1,74 @@
-// The calls of the line protocol that make, damage and show the simulated processor (module 6), whose plain data stands in `store`. `space`
-// is for the bytes of fields, `memory` for the answer.
-mod call_dump;
-mod call_fill;
-mod call_hash;
-mod call_sim;
-mod call_spoil;
-
+// The call of the line protocol that builds the simulated processor (module 6), `sim TYPETEXT FILES LOG`. Its plain data stands in `store`.
+ghost use mathlib.Core.Path.{_≡_};
+ghost use Prim.Native.Nat.{_≤_};
+ghost use lib.ListN.{length, take};
+use model::FileRecord;
+use model::Made;
+use protocol::Args;
 use protocol::Told;
 
-const SIM: u8 = 1;
-
-const FILL: u8 = 2;
-
-const SPOIL: u8 = 3;
-
-const DUMP: u8 = 4;
-
-const HASH: u8 = 5;
-
-fn which(call: &[u8]) -> u8 {
-    if text::is(call, b"sim") {
-        return SIM;
-    }
-    if text::is(call, b"fill") {
-        return FILL;
-    }
-    if text::is(call, b"spoil") {
-        return SPOIL;
-    }
-    which_shown(call)
+pub fn answer(a: Args, line: &[u8], space: &[u8], memory: &mut [u8], store: &mut [u8]) -> Told {
+    let n = text::within(a.start, line);
+    filed(&line[n..], protocol::part(space, a, 0), memory, store)
 }
 
-fn which_shown(call: &[u8]) -> u8 {
-    if text::is(call, b"dump") {
-        return DUMP;
+// A number of files that there is room for.
+fn within(n: usize, files: &[[u32; 3]]) -> usize
+    ensures { λ r. ⌜ (r ≤ length (now (files .entry))) × (r ≡ length (take r (now (files .entry)))) ⌝ }
+{
+    if n < files.len() {
+        return n;
     }
-    if text::is(call, b"hash") {
-        return HASH;
-    }
-    0
+    files.len()
 }
 
-pub fn answer(
-    call: &[u8],
-    line: &[u8],
-    space: &mut [u8],
+fn filed(line: &[u8], plc_type: &[u8], memory: &mut [u8], store: &mut [u8]) -> Told {
+    let none = [0u32; 3];
+    let mut files = [none; 257];
+    let l = sim_lists::files(text::field(line, 2), &mut files);
+    if l.why != 0 {
+        return Told::Error(l.why);
+    }
+    let n = within(l.n, &files);
+    logged(text::field(line, 3), plc_type, &files[..n], memory, store)
+}
+
+// `memory` is for the bytes of each entry.
+fn logged(
+    entries: &[u8],
+    plc_type: &[u8],
+    files: &[[u32; 3]],
     memory: &mut [u8],
     store: &mut [u8],
 ) -> Told {
-    let k = which(call);
-    if k == 0 {
-        return Told::Error(protocol::CALL);
+    let mut log = [0u8; 16448];
+    let l = sim_lists::log(entries, memory, &mut log);
+    if l.why != 0 {
+        return Told::Error(l.why);
     }
-    if k == SIM {
-        return call_sim::answer(line, space, memory, store);
+    let made = raised(plc_type, files, &log, l.n, store);
+    base::put_all(store, sim_store::LOG, &log);
+    match made {
+        Made::Refused(k) => Told::Refused(k),
+        Made::Ready => Told::Done,
     }
-    if k == FILL {
-        return call_fill::answer(line, space, store);
-    }
-    if k == SPOIL {
-        return call_spoil::answer(line, space, store);
-    }
-    shown(k, line, memory, store)
 }
 
-// `dump`, `hash`
-fn shown(k: u8, line: &[u8], memory: &mut [u8], store: &[u8]) -> Told {
-    if text::fields(line) != 1 {
-        return Told::Error(protocol::FIELDS);
+fn raised(plc_type: &[u8], files: &[[u32; 3]], log: &[u8], count: usize, store: &mut [u8]) -> Made {
+    let m = text::within(65535, store);
+    let r = bridges::new_on(files, plc_type, log, count, &mut store[..m]);
+    let rows = r.rows;
+    let b = r.built;
+    keep_rows(rows, store);
+    sim_store::keep_slc(store, b.slc);
+    b.made
+}
+
+fn keep_rows(rows: [FileRecord; 256], store: &mut [u8]) {
+    let mut i = 0;
+    while i < 256 {
+        let r = rows[i];
+        sim_store::keep_record(store, i as u16, r);
+        i += 1;
     }
-    if sim_store::files(store) == 0 {
-        return Told::Refused(16);
-    }
-    if k == DUMP {
-        return Told::Text(call_dump::shown(memory, store));
-    }
-    Told::Text(call_hash::shown(memory, store))
 }

@@ -2,52 +2,23 @@
 ghost use Prim.Native.Nat.{_<_, _≤_};
 ghost use lib.ListN.{length};
 use libc::STDIN_FILENO;
+use protocol::Args;
 use protocol::Told;
+use protocol::calls;
 use say::Place;
 
-// The answer to a line of a call, which has an output of at most `room` bytes or rows, where it has one. `space` is for the bytes of fields,
-// `memory` for the answer; in `store` stands the simulated processor.
-fn call(line: &[u8], room: usize, space: &mut [u8], memory: &mut [u8], store: &mut [u8]) -> Told {
-    let word = text::field(line, 0);
-    let a = calls_sim::answer(word, line, space, memory, store);
-    if !protocol::is_no_call(a) {
-        return a;
+// The answer to a call. The bytes of its fields stand in `space`, the answer in `memory`, the simulated processor in `store`.
+fn call(a: Args, line: &[u8], space: &[u8], memory: &mut [u8], store: &mut [u8]) -> Told {
+    if a.call < calls::SIM {
+        return calls_plain::answer(a, space, memory);
     }
-    let b = calls_processor::answer(word, line, room, space, memory, store);
-    if !protocol::is_no_call(b) {
-        return b;
+    if a.call == calls::SIM {
+        return calls_sim::answer(a, line, space, memory, store);
     }
-    on_texts(word, line, room, space, memory)
-}
-
-// A call that asks no processor.
-fn on_texts(word: &[u8], line: &[u8], room: usize, space: &mut [u8], memory: &mut [u8]) -> Told {
-    let a = calls_address::answer(word, line, space, memory);
-    if !protocol::is_no_call(a) {
-        return a;
+    if a.call < calls::FILL {
+        return calls_processor::answer(a, space, memory, store);
     }
-    let b = calls_type::answer(word, line, space, memory);
-    if !protocol::is_no_call(b) {
-        return b;
-    }
-    let c = calls_element::answer(word, line, room, space, memory);
-    if !protocol::is_no_call(c) {
-        return c;
-    }
-    on_messages(word, line, room, space, memory)
-}
-
-fn on_messages(word: &[u8], line: &[u8], room: usize, space: &mut [u8], memory: &mut [u8]) -> Told {
-    let n = text::within(room, memory);
-    let a = calls_request::answer(word, line, space, &mut memory[..n]);
-    if !protocol::is_no_call(a) {
-        return a;
-    }
-    let b = calls_reply::answer(word, line, room, space, memory);
-    if !protocol::is_no_call(b) {
-        return b;
-    }
-    calls_directory::answer(word, line, space, memory)
+    calls_store::answer(a, space, memory, store)
 }
 
 // Empty lines and lines that begin with `#` are echoed.
@@ -72,16 +43,14 @@ fn reply(
     out: &mut [u8],
     p: Place,
 ) -> Place {
-    let r = protocol::room_of(line);
-    if r.why != 0 {
-        return protocol::say_told(Told::Error(r.why), memory, out, p);
+    let a = protocol::read(line, space);
+    if a.why != 0 {
+        return protocol::say_told(Told::Error(a.why), memory, out, p);
     }
-    let n = text::within(r.from, line);
-    let rest = &line[n..];
-    if text::is(text::field(rest, 0), b"dir") {
-        return calls_directory::say_dir(rest, r.room, space, out, p);
+    if a.call == calls::DIR {
+        return calls_directory::say_dir(a, space, out, p);
     }
-    let told = call(rest, r.room, space, memory, store);
+    let told = call(a, line, space, memory, store);
     protocol::say_told(told, memory, out, p)
 }
 

@@ -3,24 +3,40 @@ ghost use Prim.Native.Nat.{_≤_};
 ghost use lib.ListN.{length};
 use crate::told;
 use decimal::Decimal;
+use decimal::Whole;
 use text::Byte;
+use text::Long;
 
-// The fields that were read: of a number or a code its value; of a byte string where its bytes stand, and how many they are. `why` is 0, or
-// why the line is none of the protocol.
+// The fields that were read: of a number or a code its value; of a byte string where its bytes stand, and how many they are; signed numbers and
+// the bits of a float, of which a line has one or one list. `why` is 0, or
+// why the line is none of the protocol; `call` and `kind` are places in the tables of calls and of a call's kinds, from 1 on. The call begins at
+// `start`, and its output has `room` bytes or rows.
 pub struct Args {
     pub why: u8,
+    pub call: u8,
+    pub kind: u8,
+    pub start: usize,
+    pub room: usize,
     pub end: usize,
     pub from: [usize; 6],
     pub n: [u64; 6],
+    pub whole: [i64; 3],
+    pub bits: u32,
 }
 
 // No field was read, for this reason.
 pub fn fault(why: u8) -> Args {
     Args {
         why,
+        call: 0,
+        kind: 0,
+        start: 0,
+        room: 0,
         end: 0,
         from: [0; 6],
         n: [0; 6],
+        whole: [0; 3],
+        bits: 0,
     }
 }
 
@@ -34,7 +50,7 @@ fn kept(a: Args, i: usize, from: usize, n: u64) -> Args {
     b
 }
 
-fn sum(a: usize, b: usize) -> usize {
+pub fn sum(a: usize, b: usize) -> usize {
     if usize::MAX - a < b {
         return usize::MAX;
     }
@@ -92,45 +108,106 @@ fn most(shape: u8) -> u64 {
     u64::MAX
 }
 
-fn field(a: Args, i: usize, shape: u8, s: &[u8], space: &mut [u8]) -> Args {
+// Signed number i of the line.
+fn signed(a: Args, i: usize, digits: &[u8]) -> Args {
+    match decimal::signed(digits) {
+        Whole::No => fault(told::NUMBER),
+        Whole::Is(n) => {
+            if 3 <= i {
+                return a;
+            }
+            let mut b = a;
+            b.whole[i] = n;
+            b
+        }
+    }
+}
+
+fn three(a: Args, s: &[u8]) -> Args {
+    if text::parts(s, b',') != 3 {
+        return fault(told::NUMBER);
+    }
+    let b = signed(a, 0, text::part(s, b',', 0));
+    if b.why != 0 {
+        return b;
+    }
+    let c = signed(b, 1, text::part(s, b',', 1));
+    if c.why != 0 {
+        return c;
+    }
+    signed(c, 2, text::part(s, b',', 2))
+}
+
+fn float(a: Args, digits: &[u8]) -> Args {
+    match text::bits(digits) {
+        Long::No => fault(told::HEX),
+        Long::Is(bits) => {
+            let mut b = a;
+            b.bits = bits;
+            b
+        }
+    }
+}
+
+// Field i behind the first.
+fn field(a: Args, line: &[u8], i: usize, shape: u8, space: &mut [u8]) -> Args {
+    let s = text::field(line, sum(i, 1));
     if shape == b'x' {
         return bytes(a, i, s, space);
     }
     if shape == b'q' {
         return requestor(a, i, s, space);
     }
+    if shape == b'_' {
+        return a;
+    }
+    value(a, i, shape, s)
+}
+
+fn value(a: Args, i: usize, shape: u8, s: &[u8]) -> Args {
     if shape == b'c' {
         return code(a, i, s);
     }
-    if shape == b'_' {
-        return a;
+    if shape == b'i' {
+        return signed(a, 0, s);
+    }
+    if shape == b'w' {
+        return three(a, s);
+    }
+    if shape == b'f' {
+        return float(a, s);
     }
     up_to(a, i, s, most(shape))
 }
 
-// How many fields a line has behind its first.
-fn behind(line: &[u8]) -> usize {
-    let n = text::fields(line);
-    if n == 0 {
-        return 0;
-    }
-    n - 1
-}
-
-// The fields of a line, one for each shape: `x` a byte string, `q` a requester, `c` a code, `n` a number, `s` one up to 65535, `b` one up to
-// 255, `1` one up to 1, `_` anything. The bytes of byte strings stand end to end in `space`.
+// The fields of a line behind its first, one for each shape: `x` a byte string, `q` a requester, `c` a code, `n` a number, `s` one up to 65535,
+// `b` one up to 255, `1` one up to 1, `i` a signed one, `w` three signed ones, `f` the bits of a float, `_` anything. The bytes of byte strings stand end to end in `space`.
 pub fn read(line: &[u8], shapes: &[u8], space: &mut [u8]) -> Args {
-    if behind(line) != shapes.len() {
+    if text::fields(line) != sum(shapes.len(), 1) {
         return fault(told::FIELDS);
     }
-    all(line, shapes, space)
+    all(fault(0), line, 0, shapes, space)
 }
 
-fn all(line: &[u8], shapes: &[u8], space: &mut [u8]) -> Args {
-    let mut a = fault(0);
+// The same with one field more between two lists of them, which isn't read.
+pub fn read_around(line: &[u8], before: &[u8], behind: &[u8], space: &mut [u8]) -> Args {
+    let from = sum(before.len(), 1);
+    if text::fields(line) != sum(sum(from, 1), behind.len()) {
+        return fault(told::FIELDS);
+    }
+    let a = all(fault(0), line, 0, before, space);
+    if a.why != 0 {
+        return a;
+    }
+    all(a, line, from, behind, space)
+}
+
+// Fields of these shapes behind the first `from` ones, beside those that were read.
+fn all(read: Args, line: &[u8], from: usize, shapes: &[u8], space: &mut [u8]) -> Args {
+    let mut a = read;
     let mut i = 0;
     while i < shapes.len() {
-        a = field(a, i, shapes[i], text::field(line, i + 1), space);
+        a = field(a, line, sum(from, i), shapes[i], space);
         if a.why != 0 {
             return a;
         }
@@ -139,22 +216,11 @@ fn all(line: &[u8], shapes: &[u8], space: &mut [u8]) -> Args {
     a
 }
 
-// Of a line whose field `at` is a KIND, where 0 is a kind that the call doesn't know: why it is none of the protocol, or 0.
-pub fn kind_fault(line: &[u8], at: usize, kind: u8) -> u8 {
-    if text::fields(line) <= at {
-        return told::FIELDS;
-    }
-    if kind == 0 {
-        return told::KIND;
-    }
-    0
-}
-
-// Where the call of a line begins, and how many bytes or rows its output has: `room ROOM CALL ..`, or CALL alone. `why` is as that of `Args`.
+// `why`, `room` and `start` of `Args`.
 pub struct Room {
     pub why: u8,
     pub room: usize,
-    pub from: usize,
+    pub start: usize,
 }
 
 fn in_room(line: &[u8]) -> Room {
@@ -163,29 +229,30 @@ fn in_room(line: &[u8]) -> Room {
         Decimal::No => Room {
             why: told::NUMBER,
             room: 0,
-            from: 0,
+            start: 0,
         },
         Decimal::Is(n) => Room {
             why: 0,
             room: n as usize,
-            from: sum(6, digits.len()),
+            start: sum(6, digits.len()),
         },
     }
 }
 
+// `room ROOM CALL ..`, or CALL alone.
 pub fn room_of(line: &[u8]) -> Room {
     if !text::is(text::field(line, 0), b"room") {
         return Room {
             why: 0,
             room: 65535,
-            from: 0,
+            start: 0,
         };
     }
     if text::fields(line) < 3 {
         return Room {
             why: told::FIELDS,
             room: 0,
-            from: 0,
+            start: 0,
         };
     }
     in_room(line)

@@ -1,7 +1,7 @@
 // The answer to a line.
 use say::Place;
 
-// Why a line is none of the protocol.
+// Why a line is none of the protocol: a place among the words of `say_error`.
 pub const LINE: u8 = 1;
 
 pub const CALL: u8 = 2;
@@ -25,39 +25,9 @@ pub enum Told {
     Text(usize),
 }
 
-// Is the line's first field no call?
-pub fn is_no_call(told: Told) -> bool {
-    match told {
-        Told::Error(why) => why == CALL,
-        Told::Refused(n) => false,
-        Told::Done => false,
-        Told::Nothing => false,
-        Told::Bytes(n) => false,
-        Told::Text(n) => false,
-    }
-}
-
 fn say_error(why: u8, out: &mut [u8], p: Place) -> Place {
-    if why == FIELDS {
-        return say::error(out, p, b"fields");
-    }
-    if why == HEX {
-        return say::error(out, p, b"hex");
-    }
-    if why == NUMBER {
-        return say::error(out, p, b"number");
-    }
-    say_other_error(why, out, p)
-}
-
-fn say_other_error(why: u8, out: &mut [u8], p: Place) -> Place {
-    if why == KIND {
-        return say::error(out, p, b"kind");
-    }
-    if why == CALL {
-        return say::error(out, p, b"call");
-    }
-    say::error(out, p, b"line")
+    let words = b"- line call fields kind hex number";
+    say::error(out, p, text::field(words, why as usize))
 }
 
 fn say_text(text: &[u8], out: &mut [u8], p: Place) -> Place {

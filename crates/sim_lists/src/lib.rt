@@ -12,21 +12,6 @@ pub struct List {
     pub why: u8,
 }
 
-// The end of the part that starts at a place: the next comma, or the end.
-fn part_end(s: &[u8], at: usize) -> usize
-    requires { ⌜ at ≤ length (now s) ⌝ }
-    ensures { λ r. ⌜ (at ≤ r) × (r ≤ length (now (s .entry))) ⌝ }
-{
-    let mut i = at;
-    while i < s.len() {
-        if s[i] == b',' {
-            return i;
-        }
-        i += 1;
-    }
-    i
-}
-
 // A file: number, code, elements. What is above 32 bits is held to 4,294,967,295, which is refused alike.
 struct Wanted {
     row: [u32; 3],
@@ -82,7 +67,7 @@ pub fn files(s: &[u8], out: &mut [[u32; 3]]) -> List {
     let mut at = 0;
     let mut n = 0;
     while at <= s.len() {
-        let e = part_end(s, at);
+        let e = text::part_end(s, b',', at);
         let f = file(&s[at..e]);
         if f.why != 0 {
             return List { n, why: f.why };
@@ -141,7 +126,7 @@ pub fn log(s: &[u8], space: &mut [u8], out: &mut [u8]) -> List {
     let mut place = 0;
     let mut longest = 0;
     while at <= s.len() {
-        let e = part_end(s, at);
+        let e = text::part_end(s, b',', at);
         let got = entry(&s[at..e], space);
         let k = got.n;
         if !got.good {

@@ -13,5 +13,6 @@ pub use line::field;
 pub use line::fields;
 pub use line::is;
 pub use line::part;
+pub use line::part_end;
 pub use line::parts;
 pub use line::within;

@@ -1,7 +1,7 @@
 // Parts of a text: the fields of a line.
 ghost use mathlib.Core.Path.{_≡_};
 ghost use mathlib.Core.Bool.{cond};
-ghost use Prim.Native.Nat.{ℕ, suc, _+_, _≤_, min};
+ghost use Prim.Native.Nat.{ℕ, suc, _+_, _-_, _≤_, min};
 ghost use lib.Dec.{eqb};
 ghost use lib.ListN.{length, take, drop};
 ghost use Rattle.text.specs.Line.{cut, partAt, same};
@@ -9,9 +9,8 @@ ghost use Rattle.text.specs.Line.{cut, partAt, same};
 const BLANK: u8 = 32;
 
 // The end of the part that starts here: the next byte `by`, or the end.
-fn part_end(s: &[u8], by: u8, at: usize) -> usize
-    requires { ⌜ at ≤ length (now s) ⌝ }
-    ensures { λ r. ⌜ (r ≡ at + length (partAt by 0 (drop at (now (s .entry))))) × (r ≤ length (now (s .entry))) ⌝ }
+pub fn part_end(s: &[u8], by: u8, at: usize) -> usize
+    ensures { λ r. ⌜ (r ≡ at + length (partAt by 0 (drop at (now (s .entry))))) × (at ≤ r) × (r ≤ at + (length (now (s .entry)) - at)) ⌝ }
 {
     let mut i = at;
     while i < s.len() {

@@ -1,15 +1,15 @@
 use Prim.Native.Nat.{_-_, _≤_}
 use mathlib.Core.Path.{_≡_}
 use lib.ListN.{length}
+use borrow.Author.Needs.{needs}
 use Rattle.protocol.proofs.args.all.Statement.{statement}
 use Rattle.protocol.proofs.args.all.Tie as tie
-use borrow.Author.Needs.{needs}
 
 abbrev Inv-loop : tie.InvT-loop
-Inv-loop line shapes space₀ a₀ i₀ space a i = (i ≤ length shapes) × (length space ≡ length space₀)
+Inv-loop line from shapes space₀ a₀ i₀ space a i = (i ≤ length shapes) × (length space ≡ length space₀)
 
 abbrev μ-loop : tie.MeasureT-loop
-μ-loop line shapes space₀ a₀ i₀ space a i = length shapes - i
+μ-loop line from shapes space₀ a₀ i₀ space a i = length shapes - i
 
 pub all-spec : {M : Type 1} → statement M
 all-spec =
@@ -17,11 +17,9 @@ all-spec =
     (tie.spec
     Inv-loop
     μ-loop
-    (λ c κs. search needs)
-    (λ c. search needs)
-    (λ c. search needs)
     (λ c. search needs)
     (λ c κs. search needs)
+    (λ c. search needs)
     (λ c κs. search needs)
     (λ c. search needs)
     (λ c. search needs)

@@ -8,7 +8,7 @@ use Rattle.text.proofs.line.part_end.Statement.{statement}
 use Rattle.text.proofs.line.part_end.Tie as tie
 
 abbrev Inv-loop : tie.InvT-loop
-Inv-loop s by at i₀ i = (at ≤ i) × (i ≤ length s) × ((i - at) + length (partAt by 0 (drop i s)) ≡ length (partAt by 0 (drop at s)))
+Inv-loop s by at i₀ i = (at ≤ i) × (i ≤ at + (length s - at)) × ((i - at) + length (partAt by 0 (drop i s)) ≡ length (partAt by 0 (drop at s)))
 
 abbrev μ-loop : tie.MeasureT-loop
 μ-loop s by at i₀ i = length s - i

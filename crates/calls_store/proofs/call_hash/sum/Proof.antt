@@ -1,7 +1,7 @@
 use Prim.Native.Nat.{_-_, _≤_}
 use lib.ListN.{length}
-use Rattle.calls_sim.proofs.call_hash.sum.Statement.{statement}
-use Rattle.calls_sim.proofs.call_hash.sum.Tie as tie
+use Rattle.calls_store.proofs.call_hash.sum.Statement.{statement}
+use Rattle.calls_store.proofs.call_hash.sum.Tie as tie
 use borrow.Author.Needs.{needs}
 
 abbrev Inv-loop : tie.InvT-loop

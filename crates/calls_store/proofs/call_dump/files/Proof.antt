@@ -2,8 +2,8 @@ use Prim.Native.Nat.{_-_, _≤_}
 use mathlib.Core.Path.{_≡_}
 use lib.ListN.{length}
 use borrow.Author.Needs.{needs}
-use Rattle.calls_sim.proofs.call_dump.files.Statement.{statement}
-use Rattle.calls_sim.proofs.call_dump.files.Tie as tie
+use Rattle.calls_store.proofs.call_dump.files.Statement.{statement}
+use Rattle.calls_store.proofs.call_dump.files.Tie as tie
 
 abbrev Inv-loop : tie.InvT-loop
 Inv-loop n store memory₀ from at₀ i₀ memory at i = (i ≤ n) × (length memory ≡ length memory₀)

@@ -1,8 +1,7 @@
 // `dump`: n number:CODE:BYTES .. log k ENTRY ..
 use model::FileRecord;
 
-pub fn shown(memory: &mut [u8], store: &[u8]) -> usize {
-    let n = sim_store::files(store);
+pub fn shown(n: u16, memory: &mut [u8], store: &[u8]) -> usize {
     let a = protocol::put_number(memory, 0, b' ', n as u64);
     let b = files(n, store, memory, a);
     entries(store, memory, b)

@@ -2,23 +2,27 @@ use Prim.Native.Nat.{_-_, _≤_}
 use mathlib.Core.Path.{_≡_}
 use lib.ListN.{length}
 use borrow.Author.Needs.{needs}
-use Rattle.calls_sim.proofs.call_fill.filled.Statement.{statement}
-use Rattle.calls_sim.proofs.call_fill.filled.Tie as tie
+use Rattle.calls_store.proofs.call_dump.listed.Statement.{statement}
+use Rattle.calls_store.proofs.call_dump.listed.Tie as tie
 
 abbrev Inv-loop : tie.InvT-loop
-Inv-loop n number bytes store₀ i₀ store i = (i ≤ n) × (length store ≡ length store₀)
+Inv-loop log from count memory₀ at place₀ next₀ left₀ memory place next left = length memory ≡ length memory₀
 
 abbrev μ-loop : tie.MeasureT-loop
-μ-loop n number bytes store₀ i₀ store i = n - i
+μ-loop log from count memory₀ at place₀ next₀ left₀ memory place next left = left
 
-pub filled-spec : {M : Type 1} → statement M
-filled-spec =
+pub listed-spec : {M : Type 1} → statement M
+listed-spec =
     tie.close
     (tie.spec
     Inv-loop
     μ-loop
+    (λ c κs. search needs)
     (λ c. search needs)
     (λ c κs. search needs)
+    (λ c. search needs)
+    (λ c. search needs)
+    (λ c. search needs)
     (λ c κs. search needs)
     (λ c. search needs)
     (λ c κs. search needs)

@@ -1,27 +1,29 @@
 use Prim.Native.Nat.{_-_, _≤_}
 use mathlib.Core.Path.{_≡_}
 use lib.ListN.{length}
-use Rattle.calls_sim.proofs.call_sim.keep_rows.Statement.{statement}
-use Rattle.calls_sim.proofs.call_sim.keep_rows.Tie as tie
 use borrow.Author.Needs.{needs}
+use Rattle.calls_store.proofs.call_fill.filled.Statement.{statement}
+use Rattle.calls_store.proofs.call_fill.filled.Tie as tie
 
 abbrev Inv-loop : tie.InvT-loop
-Inv-loop store₀ rows i₀ store i = (i ≤ 256) × (length store ≡ length store₀)
+Inv-loop n number bytes store₀ i₀ store i = (i ≤ n) × (length store ≡ length store₀)
 
 abbrev μ-loop : tie.MeasureT-loop
-μ-loop store₀ rows i₀ store i = 256 - i
+μ-loop n number bytes store₀ i₀ store i = n - i
 
-pub keep-rows-spec : {M : Type 1} → statement M
-keep-rows-spec =
+pub filled-spec : {M : Type 1} → statement M
+filled-spec =
     tie.close
     (tie.spec
     Inv-loop
     μ-loop
     (λ c. search needs)
-    (λ c. search needs)
-    (λ c. search needs)
+    (λ c κs. search needs)
+    (λ c κs. search needs)
     (λ c. search needs)
     (λ c κs. search needs)
+    (λ c. search needs)
+    (λ c. search needs)
     (λ c. search needs)
     (λ c. search needs)
     (λ c. search needs)

@@ -1,7 +1,7 @@
 // `hash`: H k, FNV-1a (64 bits) of all file bytes in ascending file order, and how many datalog entries are left
-pub fn shown(memory: &mut [u8], store: &[u8]) -> usize {
+pub fn shown(n: u16, memory: &mut [u8], store: &[u8]) -> usize {
     let s = sim_store::slc(store);
-    let h = sum(data(store));
+    let h = sum(data(n, store));
     let mut bytes = [0u8; 8];
     half(h.high, &mut bytes, 0);
     half(h.low, &mut bytes, 4);
@@ -10,8 +10,7 @@ pub fn shown(memory: &mut [u8], store: &[u8]) -> usize {
 }
 
 // The bytes of the files, which lie end to end from 0 on.
-fn data(store: &[u8]) -> &[u8] {
-    let n = sim_store::files(store);
+fn data(n: u16, store: &[u8]) -> &[u8] {
     if n == 0 {
         return &store[..0];
     }
