@@ -2,9 +2,8 @@
 ghost use mathlib.Core.Path.{_≡_};
 ghost use mathlib.Core.List.{[]};
 ghost use mathlib.Core.Option.{some};
-ghost use Prim.Native.Nat.{_<_, _≤_};
-ghost use lib.ListN.{length, getD, take};
-ghost use Rattle.base.specs.Chars.{spelled};
+ghost use Prim.Native.Nat.{_<_};
+ghost use lib.ListN.{length, getD};
 ghost use Rattle.file_type.specs.Fields.{firstField};
 ghost use Rattle.file_type.specs.Table.{Named, bitNames, wordNames, fieldNames, fieldAt, ofField};
 use file_type::Field;
@@ -149,16 +148,6 @@ pub fn word_name(t: FileType, i: usize) -> Name
     field_name(t, i)
 }
 
-// Does `s` spell this name?
-fn is_name(n: Name, s: &[u8], any_case: bool) -> bool
-    requires { ⌜ n .len ≤ 3 ⌝ }
-    ensures { λ r. ⌜ r ≡ spelled «any_case» (take (n .len) (n .text)) (now (s .entry)) ⌝ }
-{
-    let text = n.text;
-    let len = n.len;
-    base::spells(s, &text[..len], any_case)
-}
-
 // The word or bit at a place among the names.
 fn field_at(i: usize) -> Field
     requires { ⌜ i < 10 ⌝ }
@@ -177,7 +166,7 @@ pub fn field(t: FileType, name: &[u8]) -> Field
     let n = fields(t);
     let mut i = 0;
     while i < n {
-        if is_name(field_name(t, i), name, true) {
+        if file_type::is_name(field_name(t, i), name, true) {
             return field_at(i);
         }
         i += 1;

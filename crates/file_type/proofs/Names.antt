@@ -1,11 +1,14 @@
--- Laws of the search for a type by its name.
-use Prim.Native.Nat.{ℕ, suc, _+_, _≤_, _<_}
+-- Laws of names, and of the search for a type by its name.
+use Prim.Native.Nat.{ℕ, suc, _+_, _≤_, _<_, min}
 use mathlib.Core.Path.{_≡_, refl, ap, sym, _∙_}
 use mathlib.Core.List.{List}
 use mathlib.Core.Bool.{Bool, true, false, cond}
 use native.Mathlib.Numerals.{add-one}
+use native.Mathlib.Omega.{arith}
+use borrow.Author.Tests.{leb-true, leb-false}
+use lib.Dec.{leb}
 use lib.ListN.{length, getD, take, drop, drop-of-length-le}
-use lib.Seq.{drop-cons}
+use lib.Seq.{drop-cons, length-take-le, take-all}
 use Rattle.base.specs.Chars.{spelled}
 use Rattle.file_type.specs.declared.FileType.{FileType}
 use Rattle.file_type.specs.declared.Known.the-variants as known
@@ -13,6 +16,26 @@ use Rattle.file_type.specs.declared.Name.{Name}
 use Rattle.file_type.specs.Table.{row, all, Named, first, ofName}
 use Rattle.file_type.proofs.Fields.{name-bytes}
 
+-- ---- a name in three bytes, of any length that it claims
+module _ (text : List ℕ) (len n : ℕ) (full : length text ≡ 3) (e : n ≡ min len 3) where
+  pub name-within : n ≤ length text
+  name-within = omega arith
+
+  pub name-length : n ≡ length (take n text)
+  name-length = sym (length-take-le n text name-within)
+
+  pub name-spelled : (any b : Bool) (s : List ℕ) → b ≡ spelled any (take n text) s → b ≡ spelled any (take len text) s
+  name-spelled any b s g = g ∙ ap (λ (x : List ℕ). spelled any x s) (go (leb len 3) refl)
+    where
+      go : (t : Bool) → leb len 3 ≡ t → take n text ≡ take len text
+      go true t = let l : len ≤ 3 = leb-true len 3 t in let q : n ≡ len = omega arith in rw q
+      go false t =
+          let l : 3 < len = leb-false len 3 t in
+          let a : length text ≤ len = omega arith in
+          let b : length text ≤ n = omega arith in
+          take-all n text b ∙ sym (take-all len text a)
+
+-- ---- the search
 abbrev pub spelledBy : List ℕ → FileType → Bool
 spelledBy s t = spelled false (row t .name) s
 

@@ -1,6 +1,5 @@
 // Data file types: names, PCCC type codes, element sizes.
 ghost use mathlib.Core.Path.{_≡_};
-ghost use Prim.Native.Nat.{_<_, _≤_};
 ghost use lib.ListN.{take};
 ghost use Rattle.base.specs.Chars.{spelled};
 ghost use Rattle.file_type.specs.Table.{row, Named, ofCode, ofName};
@@ -238,39 +237,11 @@ const FILE_TYPES: [FileType; 15] = [
     FileType::PLS,
 ];
 
-// Does `s` spell this name?
-fn is_name(n: Name, s: &[u8], any_case: bool) -> bool
-    requires { ⌜ n .len ≤ 3 ⌝ }
+// Does `s` spell this name? A name has at most its three bytes.
+pub fn is_name(n: Name, s: &[u8], any_case: bool) -> bool
     ensures { λ r. ⌜ r ≡ spelled «any_case» (take (n .len) (n .text)) (now (s .entry)) ⌝ }
 {
     let text = n.text;
-    let len = n.len;
+    let len = base::least(n.len, 3);
     base::spells(s, &text[..len], any_case)
 }
-
-// The names of words 1 and 2 and of the bits from 15 down, of T, C and R.
-const FIELD_NAMES: [[u8; 3]; 23] = [
-    [b'P', b'R', b'E'],
-    [b'A', b'C', b'C'],
-    [b'E', b'N', 0],
-    [b'T', b'T', 0],
-    [b'D', b'N', 0],
-    [b'P', b'R', b'E'],
-    [b'A', b'C', b'C'],
-    [b'C', b'U', 0],
-    [b'C', b'D', 0],
-    [b'D', b'N', 0],
-    [b'O', b'V', 0],
-    [b'U', b'N', 0],
-    [b'U', b'A', 0],
-    [b'L', b'E', b'N'],
-    [b'P', b'O', b'S'],
-    [b'E', b'N', 0],
-    [b'E', b'U', 0],
-    [b'D', b'N', 0],
-    [b'E', b'M', 0],
-    [b'E', b'R', 0],
-    [b'U', b'L', 0],
-    [b'I', b'N', 0],
-    [b'F', b'D', 0],
-];
