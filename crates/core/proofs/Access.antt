@@ -1,6 +1,7 @@
 -- The diagnostic status, and reads and writes of a file.
 use Prim.Native.Nat.{ℕ, _+_, _≤_}
 use mathlib.Core.Path.{_≡_, refl, sym, ap, subst, _∙_}
+use mathlib.Core.Bool.{true}
 use mathlib.Core.List.{List, []}
 use mathlib.Core.Option.{none, some}
 use native.Mathlib.Omega.{arith}
@@ -10,7 +11,7 @@ use Rattle.base.specs.Put.{put}
 use Rattle.model.specs.declared.Done.{Done}
 use Rattle.model.specs.declared.Slc.{Slc}
 use Rattle.model.specs.Ask.{diagnostic}
-use Rattle.model.specs.Frame.{body, function}
+use Rattle.model.specs.Frame.{wellFormed, body, function}
 use Rattle.model.specs.Masked.{maskedAt}
 use Rattle.model.specs.Pccc.{memoryLeft, slcLeft, left, leftBy}
 use Rattle.masked.specs.Written.{written}
@@ -18,14 +19,15 @@ use Rattle.query.specs.declared.Query.{Query}
 use Rattle.table.specs.declared.Seen.{Seen}
 use Rattle.located.specs.declared.Place.{Place}
 use Rattle.located.specs.declared.Place.the-variants as place
-use Rattle.questions.specs.Steps.{Answers, tells, tellsBad, statusStep, readStep, valuesOf, writeStep}
+use Rattle.questions.specs.Steps.{Answers, Told, tells, tellsBad, statusStep, readStep, valuesOf, writeStep}
 use Rattle.located.specs.Locate.{locateBy, placeOf}
-use Rattle.questions.proofs.Replying.{answers-left}
+use Rattle.questions.proofs.Replying.{answers-left, told}
 
 module _ (slc : Slc) (c reply reply′ : List ℕ) (r : Done) where
-  pub diagnosed : (d : List ℕ) → d ≡ diagnostic (take (slc .«type_len») (slc .«type_text»)) → Answers (tells c 0 d) slc [] reply r reply′ → Answers (statusStep slc c) slc [] reply r reply′
+  pub diagnosed : (d : List ℕ) → d ≡ diagnostic (take (slc .«type_len») (slc .«type_text»)) → length d ≡ 24 → Told c 0 d slc reply r reply′ → wellFormed c ≡ true → 514 ≤ length reply
+      → Answers (statusStep slc c) slc [] reply r reply′
   unfolding statusStep
-  diagnosed d e a = subst (λ (x : List ℕ). Answers (tells c 0 x) slc [] reply r reply′) e a
+  diagnosed d e n a w k = subst (λ (x : List ℕ). Answers (tells c 0 x) slc [] reply r reply′) e (told a w (omega arith) k)
 
   module _ (s : Seen) (q : Query) (m : List ℕ) (p : Place) (e : placeOf p ≡ locateBy s q) where
     pub fetched-bad : p ≡ place.No → Answers (tellsBad c) slc [] reply r reply′ → Answers (readStep s q m c) slc [] reply r reply′
@@ -53,9 +55,10 @@ module _ (slc : Slc) (c reply reply′ : List ℕ) (r : Done) where
         ev ∙ ap (λ (z : List ℕ). take (q .size) (drop (q .place) z)) y
 
     pub stored : (at n : ℕ) (ps vs m′ : List ℕ) → p ≡ place.At at → n ≡ getD c 0 0 → ps ≡ take (length c) (drop (n + 5) c) → vs ≡ take (q .size) (drop (q .place) ps)
-        → m′ ≡ written m at (q .mask) vs → Answers (tells c 0 []) slc [] reply r reply′ → left r m′ reply′ ≡ leftBy (writeStep s q m c) slc m [] reply
+        → m′ ≡ written m at (q .mask) vs → Told c 0 [] slc reply r reply′ → wellFormed c ≡ true → 514 ≤ length reply → left r m′ reply′ ≡ leftBy (writeStep s q m c) slc m [] reply
     unfolding writeStep memoryLeft written slcLeft
-    stored at n ps vs m′ f en ep ev em a =
+    stored at n ps vs m′ f en ep ev em t w k =
+        let a : Answers (tells c 0 []) slc [] reply r reply′ = told t w (omega arith) k in
         let o : locateBy s q ≡ some at = sym e ∙ ap placeOf f in
         let v : m′ ≡ put m at (maskedAt m at (q .mask) (valuesOf q c)) = em ∙ ap (λ (z : List ℕ). put m at (maskedAt m at (q .mask) z)) (values-there n ps vs en ep ev) in
         rw o (λ i. record { done = a .done i; memory = v i; reply = a .left i })

@@ -15,30 +15,8 @@ ghost use lib.ListN.{length};
 ghost use Rattle.model.specs.Frame.{wellFormed};
 ghost use Rattle.model.specs.Pccc.{left, leftBy};
 ghost use Rattle.soundness.specs.Sound.{goodLogBy};
-ghost use Rattle.questions.specs.Steps.{Answers, tells, tellsBad, statusStep, popStep, readStep, writeStep, obeyStep};
+ghost use Rattle.questions.specs.Steps.{Answers, statusStep, popStep, readStep, writeStep, obeyStep};
 ghost use Rattle.questions.specs.Calls.{respondOf};
-
-// A reply.
-fn answer(slc: Slc, command: &[u8], status: u8, bytes: &[u8], reply: &mut [u8]) -> Done
-    requires { ⌜ wellFormed (now command) ≡ true ⌝ }
-    requires { ⌜ length (now bytes) ≤ 255 ⌝ }
-    requires { ⌜ 514 ≤ length (now reply) ⌝ }
-    ensures { λ r. ⌜ Answers (tells (now (command .entry)) status (now (bytes .entry))) slc [] (now (reply .entry)) r (now (reply .exit)) ⌝ }
-{
-    Done {
-        slc,
-        answered: Answered::Reply(framed::reply_to(command, status, bytes, reply)),
-    }
-}
-
-// Status F0, extended 06.
-fn bad(slc: Slc, command: &[u8], reply: &mut [u8]) -> Done
-    requires { ⌜ wellFormed (now command) ≡ true ⌝ }
-    requires { ⌜ 514 ≤ length (now reply) ⌝ }
-    ensures { λ r. ⌜ Answers (tellsBad (now (command .entry))) slc [] (now (reply .entry)) r (now (reply .exit)) ⌝ }
-{
-    answer(slc, command, 0xF0, &[0x06], reply)
-}
 
 // The diagnostic status.
 fn diagnose(slc: Slc, command: &[u8], reply: &mut [u8]) -> Done
@@ -48,7 +26,7 @@ fn diagnose(slc: Slc, command: &[u8], reply: &mut [u8]) -> Done
 {
     let text = slc.type_text;
     let d = framed::diagnostic(text, slc.type_len);
-    answer(slc, command, 0, &d, reply)
+    questions::answer(slc, command, 0, &d, reply)
 }
 
 // The oldest datalog entry, whole, and it leaves the queue; none left: status 10.
@@ -59,7 +37,7 @@ fn pop(slc: Slc, log: &[u8], command: &[u8], reply: &mut [u8]) -> Done
     ensures { λ r. ⌜ Answers (popStep slc (now (log .entry)) (now (command .entry))) slc (now (log .entry)) (now (reply .entry)) r (now (reply .exit)) ⌝ }
 {
     if slc.log_left == 0 {
-        return answer(slc, command, 0x10, &command[..0], reply);
+        return questions::answer(slc, command, 0x10, &command[..0], reply);
     }
     let text = slc.type_text;
     let at = slc.log_at;
@@ -71,7 +49,7 @@ fn pop(slc: Slc, log: &[u8], command: &[u8], reply: &mut [u8]) -> Done
         log_at: at + (2 + n),
         log_left: slc.log_left - 1,
     };
-    answer(rest, command, 0, located::part(log, at + 2, n), reply)
+    questions::answer(rest, command, 0, located::part(log, at + 2, n), reply)
 }
 
 // Bytes of a file.
@@ -81,9 +59,9 @@ fn fetch(slc: Slc, s: Seen, q: Query, memory: &[u8], command: &[u8], reply: &mut
     ensures { λ r. ⌜ Answers (readStep s q (now (memory .entry)) (now (command .entry))) slc [] (now (reply .entry)) r (now (reply .exit)) ⌝ }
 {
     let Place::At(at) = located::locate(s, q) else {
-        return bad(slc, command, reply);
+        return questions::bad(slc, command, reply);
     };
-    answer(
+    questions::answer(
         slc,
         command,
         0,
@@ -99,7 +77,7 @@ fn store(slc: Slc, s: Seen, q: Query, memory: &mut [u8], command: &[u8], reply: 
     ensures { λ r. ⌜ left r (now (memory .exit)) (now (reply .exit)) ≡ leftBy (writeStep s q (now (memory .entry)) (now (command .entry))) slc (now (memory .entry)) [] (now (reply .entry)) ⌝ }
 {
     let Place::At(at) = located::locate(s, q) else {
-        return bad(slc, command, reply);
+        return questions::bad(slc, command, reply);
     };
     let n = framed::id_len(command);
     masked::masked_write(
@@ -112,7 +90,7 @@ fn store(slc: Slc, s: Seen, q: Query, memory: &mut [u8], command: &[u8], reply: 
             q.size as usize,
         ),
     );
-    answer(slc, command, 0, &command[..0], reply)
+    questions::answer(slc, command, 0, &command[..0], reply)
 }
 
 // What a well-formed command does that doesn't ask for the directory.
@@ -132,11 +110,11 @@ fn obey(
 {
     let wants = q.wants;
     match wants {
-        Wants::Illegal => answer(slc, command, 0x10, &command[..0], reply),
-        Wants::Bad => bad(slc, command, reply),
+        Wants::Illegal => questions::answer(slc, command, 0x10, &command[..0], reply),
+        Wants::Bad => questions::bad(slc, command, reply),
         Wants::Diagnostic => diagnose(slc, command, reply),
         Wants::Entry => pop(slc, log, command, reply),
-        Wants::Directory => bad(slc, command, reply),
+        Wants::Directory => questions::bad(slc, command, reply),
         Wants::Read => fetch(slc, s, q, memory, command, reply),
         Wants::Write => store(slc, s, q, memory, command, reply),
     }

@@ -1,5 +1,5 @@
 -- What a command does, as the query and the survey tell it (document 01, "What the processor does").
-use Prim.Native.Nat.{ℕ, _+_, _*_}
+use Prim.Native.Nat.{ℕ, _+_, _*_, _≤_}
 use mathlib.Core.Path.{_≡_}
 use mathlib.Core.Bool.{Bool, _&&_, cond}
 use mathlib.Core.List.{List, [], _∷_}
@@ -16,6 +16,7 @@ use Rattle.model.specs.Masked.{maskedAt}
 use Rattle.model.specs.Pccc.{answeredOf, replyLeft, slcLeft}
 use Rattle.model.specs.Plain.{entries}
 use Rattle.model.specs.Step.{Step, replied, keeps, lays, popped}
+use Rattle.framed.specs.Reply.{replyTo}
 use Rattle.query.specs.declared.Layout.{Layout}
 use Rattle.query.specs.declared.Query.{Query}
 use Rattle.query.specs.declared.Wants.{Wants}
@@ -35,6 +36,19 @@ tellsBad c = tells c 0xF0 (0x06 ∷ [])
 pub record Answers (x : Step) (slc : Slc) (log reply : List ℕ) (r : Done) (reply′ : List ℕ) : Type 0 where
   pub done : r ≡ record { slc = slcLeft (x .effect) slc log; answered = answeredOf (x .answer) }
   pub left : reply′ ≡ replyLeft (x .answer) reply
+
+-- bytes where a memory of this length has room for all of them, else none
+unfoldable pub roomed : ℕ → List ℕ → List ℕ
+roomed room bs = cond (leb (length bs) room) bs []
+
+-- a reply whatever was lent: nothing to a command that isn't well-formed, or where the reply memory has no room for it
+unfoldable pub tellsIn : List ℕ → List ℕ → ℕ → List ℕ → Step
+tellsIn reply c status bs = record { answer = replied (roomed (length reply) (replyTo c status bs)); effect = keeps }
+
+-- that reply was given; an id of 255 bytes and the 4 behind it are all that it has beside its data
+pub record Told (c : List ℕ) (status : ℕ) (bs : List ℕ) (slc : Slc) (reply : List ℕ) (r : Done) (reply′ : List ℕ) : Type 0 where
+  pub is : Answers (tellsIn reply c status bs) slc [] reply r reply′
+  pub small : length (replyTo c status bs) ≤ 259 + length bs
 
 unfoldable pub popStep : Slc → List ℕ → List ℕ → Step
 popStep slc log c = popped c (entries (slc .«log_left») (drop (slc .«log_at») log))

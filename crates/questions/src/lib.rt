@@ -1,9 +1,13 @@
-// The questions 16 to 18, and by definition what a command does behind them.
+// The questions 16 to 18, by definition what a command does behind them, and its replies.
+use model::Answered;
+use model::Done;
 use model::Slc;
 use table::Seen;
 ghost use mathlib.Core.Path.{_≡_};
+ghost use mathlib.Core.List.{[], _∷_};
 ghost use Rattle.soundness.specs.Sound.{soundBy};
 ghost use Rattle.questions.specs.Calls.{questionOf};
+ghost use Rattle.questions.specs.Steps.{Told};
 
 // What the reply memory must hold.
 const ROOM: usize = 514;
@@ -22,4 +26,21 @@ pub fn question(slc: Slc, s: Seen, memory: usize, log: &[u8], room: usize, comma
         return 18;
     }
     0
+}
+
+// A reply that changes nothing else; none to a command that isn't well-formed, or where there is no room for it.
+pub fn answer(slc: Slc, command: &[u8], status: u8, bytes: &[u8], reply: &mut [u8]) -> Done
+    ensures { λ r. ⌜ Told (now (command .entry)) status (now (bytes .entry)) slc (now (reply .entry)) r (now (reply .exit)) ⌝ }
+{
+    Done {
+        slc,
+        answered: Answered::Reply(framed::reply_to(command, status, bytes, reply)),
+    }
+}
+
+// Status F0, extended 06.
+pub fn bad(slc: Slc, command: &[u8], reply: &mut [u8]) -> Done
+    ensures { λ r. ⌜ Told (now (command .entry)) 0xF0 (0x06 ∷ []) slc (now (reply .entry)) r (now (reply .exit)) ⌝ }
+{
+    answer(slc, command, 0xF0, &[0x06], reply)
 }

@@ -12,30 +12,8 @@ ghost use Prim.Native.Nat.{_≤_};
 ghost use lib.ListN.{length};
 ghost use Rattle.model.specs.Frame.{wellFormed};
 ghost use Rattle.model.specs.Pccc.{left};
-ghost use Rattle.questions.specs.Steps.{Answers, tells, tellsBad, sizeAsked, directoryLength, sizeBytes, directoryStep};
+ghost use Rattle.questions.specs.Steps.{Answers, tells, sizeAsked, directoryLength, sizeBytes, directoryStep};
 ghost use Rattle.questions.specs.Calls.{showOf};
-
-// A reply.
-fn answer(slc: Slc, command: &[u8], status: u8, bytes: &[u8], reply: &mut [u8]) -> Done
-    requires { ⌜ wellFormed (now command) ≡ true ⌝ }
-    requires { ⌜ length (now bytes) ≤ 255 ⌝ }
-    requires { ⌜ 514 ≤ length (now reply) ⌝ }
-    ensures { λ r. ⌜ Answers (tells (now (command .entry)) status (now (bytes .entry))) slc [] (now (reply .entry)) r (now (reply .exit)) ⌝ }
-{
-    Done {
-        slc,
-        answered: Answered::Reply(framed::reply_to(command, status, bytes, reply)),
-    }
-}
-
-// Status F0, extended 06.
-fn bad(slc: Slc, command: &[u8], reply: &mut [u8]) -> Done
-    requires { ⌜ wellFormed (now command) ≡ true ⌝ }
-    requires { ⌜ 514 ≤ length (now reply) ⌝ }
-    ensures { λ r. ⌜ Answers (tellsBad (now (command .entry))) slc [] (now (reply .entry)) r (now (reply .exit)) ⌝ }
-{
-    answer(slc, command, 0xF0, &[0x06], reply)
-}
 
 // The directory's length.
 fn directory_length(s: Seen, l: Layout) -> usize
@@ -66,7 +44,7 @@ fn tell_size(slc: Slc, n: usize, size: u8, command: &[u8], reply: &mut [u8]) -> 
 {
     let k = size as usize;
     let word = [(n % 256) as u8, (n / 256 % 256) as u8, 0, 0, 0, 0, 0, 0];
-    answer(slc, command, 0, &word[..k], reply)
+    questions::answer(slc, command, 0, &word[..k], reply)
 }
 
 // What a command for the directory does; `d` begins with the directory.
@@ -77,7 +55,7 @@ fn list(slc: Slc, s: Seen, q: Query, d: &[u8], command: &[u8], reply: &mut [u8])
 {
     let l = q.layout;
     if q.code != l.code {
-        return bad(slc, command, reply);
+        return questions::bad(slc, command, reply);
     }
     let n = directory_length(s, l);
     if size_asked(q, l) {
@@ -85,9 +63,9 @@ fn list(slc: Slc, s: Seen, q: Query, d: &[u8], command: &[u8], reply: &mut [u8])
     }
     let from = 2 * (q.element as usize);
     if n < from + (q.size as usize) {
-        return bad(slc, command, reply);
+        return questions::bad(slc, command, reply);
     }
-    answer(
+    questions::answer(
         slc,
         command,
         0,

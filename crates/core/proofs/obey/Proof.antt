@@ -1,4 +1,5 @@
 use Rattle.core.proofs.Obeying.{wants-bad, wants-diagnostic, wants-directory, wants-entry, wants-illegal, wants-read, wants-write}
+use Rattle.questions.proofs.Replying.{told}
 use borrow.Author.Needs.{needs}
 use Rattle.core.proofs.obey.Statement.{statement}
 use Rattle.core.proofs.obey.Tie as tie
@@ -23,15 +24,15 @@ obey-spec =
     (λ c. search needs)
     (λ c κs. search needs)
     (λ c. search needs)
-    (λ c. search (wants-illegal, needs))
+    (λ c. search (wants-illegal, told, needs))
     (λ c. search needs)
-    (λ c. search (wants-bad, needs))
+    (λ c. search (wants-bad, told, needs))
     (λ c. search needs)
     (λ c. search (wants-diagnostic, needs))
     (λ c. search needs)
     (λ c. search (wants-entry, needs))
     (λ c. search needs)
-    (λ c. search (wants-directory, needs))
+    (λ c. search (wants-directory, told, needs))
     (λ c. search needs)
     (λ c. search needs)
     (λ c. search (wants-read, needs))

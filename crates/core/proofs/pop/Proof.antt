@@ -1,6 +1,7 @@
 use native.Mathlib.Omega.{arith}
 use Rattle.located.proofs.Locating.{part-length}
 use Rattle.core.proofs.Logs.{entry-fits, entry-small, popped-none, popped-there}
+use Rattle.questions.proofs.Replying.{told}
 use borrow.Author.Needs.{needs}
 use Rattle.core.proofs.pop.Statement.{statement}
 use Rattle.core.proofs.pop.Tie as tie
@@ -11,9 +12,6 @@ add-t16 c = omega (arith, entry-fits (c .before .before .before .before .before 
 add-part : tie.Need-add-part
 add-part c = omega (arith, entry-fits (c .before .before .before .before .before .before .before .before .args .slc) (c .before .before .before .before .before .before .before .before .args .log .now) (c .before .word-at .result) (c .before .word-at .ensures) (c .before .before .before .before .before .before .before .before .pre .1 .0) (c .before .before .before .if1 .left))
 
-answer-requires-2 : tie.Need-answer-requires-2
-answer-requires-2 c κs = (search needs, (search (part-length, entry-small, needs), search needs))
-
 pub pop-spec : {M : Type 1} → statement M
 pop-spec =
     tie.close
@@ -21,7 +19,7 @@ pop-spec =
     (λ c. search needs)
     (λ c κs. search needs)
     (λ c. search needs)
-    (λ c. search (popped-none, needs))
+    (λ c. search (popped-none, told, needs))
     (λ c κs. search needs)
     (λ c. search needs)
     (λ c. search needs)
@@ -29,6 +27,6 @@ pop-spec =
     (λ c. search needs)
     add-part
     (λ c κs. search needs)
-    answer-requires-2
+    (λ c κs. search needs)
     (λ c. search needs)
-    (λ c. search (popped-there, needs)))
+    (λ c. search (popped-there, told, part-length, entry-small, needs)))

@@ -1,4 +1,5 @@
 use Rattle.core.proofs.Access.{stored, stored-bad}
+use Rattle.questions.proofs.Replying.{told}
 use borrow.Author.Needs.{needs}
 use Rattle.core.proofs.store.Statement.{statement}
 use Rattle.core.proofs.store.Tie as tie
@@ -12,7 +13,7 @@ store-spec =
     (λ c. search needs)
     (λ c κs. search needs)
     (λ c. search needs)
-    (λ c. search (stored-bad, needs))
+    (λ c. search (stored-bad, told, needs))
     (λ c κs. search needs)
     (λ c. search needs)
     (λ c κs. search needs)
@@ -23,4 +24,4 @@ store-spec =
     (λ c κs. search needs)
     (λ c. search needs)
     (λ c. search needs)
-    (λ c. search (stored, needs)))
+    (λ c. let p = c .before .before .before .before .before .before .before .before .before .before .before .before .before .before .before .before .before .before .before .before .pre in search (stored, p .0, p .1, needs)))

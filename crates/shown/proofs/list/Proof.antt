@@ -1,5 +1,6 @@
 use Rattle.shown.proofs.Listing.{list-bytes, list-other, list-past, list-size, size-range}
 use Rattle.located.proofs.Locating.{part-length}
+use Rattle.questions.proofs.Replying.{told}
 use borrow.Author.Needs.{needs}
 use Rattle.shown.proofs.list.Statement.{statement}
 use Rattle.shown.proofs.list.Tie as tie
@@ -7,16 +8,13 @@ use Rattle.shown.proofs.list.Tie as tie
 tell-size-requires : tie.Need-tell-size-requires
 tell-size-requires c κs = (search needs, (size-range _ _ _ (c .before .before .before .size-asked .ensures) (c .before .before .if2 .taken), search needs))
 
-answer-requires : tie.Need-answer-requires
-answer-requires c κs = (c .before .before .before .before .before .before .before .before .before .before .before .before .before .before .before .before .pre .0, (search (part-length, needs), c .before .before .before .before .before .before .before .before .before .before .before .before .before .before .before .before .pre .1))
-
 pub list-spec : {M : Type 1} → statement M
 list-spec =
     tie.close
     (tie.spec
     (λ c κs. search needs)
     (λ c. search needs)
-    (λ c. search (list-other, needs))
+    (λ c. search (list-other, told, needs))
     (λ c κs. search needs)
     (λ c κs. search needs)
     (λ c. search needs)
@@ -30,9 +28,9 @@ list-spec =
     (λ c. search needs)
     (λ c κs. search needs)
     (λ c. search needs)
-    (λ c. search (list-past, needs))
+    (λ c. let p = c .before .before .before .before .before .before .before .before .before .before .before .before .before .before .before .before .before .pre in search (list-past, told, p .0, p .1, needs))
     (λ c. search needs)
     (λ c κs. search needs)
-    answer-requires
+    (λ c κs. search needs)
     (λ c. search needs)
-    (λ c. search (list-bytes, needs)))
+    (λ c. let p = c .before .before .before .before .before .before .before .before .before .before .before .before .before .before .before .before .before .before .before .pre in search (list-bytes, told, part-length, p .0, p .1, needs)))

@@ -1,4 +1,5 @@
 use Rattle.shown.proofs.Listing.{eight-length, eight-small, size-told}
+use Rattle.questions.proofs.Replying.{told}
 use borrow.Author.Needs.{needs}
 use Rattle.shown.proofs.tell_size.Statement.{statement}
 use Rattle.shown.proofs.tell_size.Tie as tie
@@ -11,6 +12,6 @@ tell-size-spec =
     (λ c. search needs)
     (λ c. search needs)
     (λ c. search (eight-length, needs))
-    (λ c κs. (search needs, (search (eight-small, needs), search needs)))
+    (λ c κs. search needs)
     (λ c. search needs)
-    (λ c. search (size-told, needs)))
+    (λ c. search (size-told, told, eight-small, needs)))
