@@ -1,4 +1,4 @@
-// The calls of the line protocol: their names and the shapes of their fields, in one table. A call's number is its place there.
+// The calls of the line protocol: their names and the shapes of their fields, in one table (`of_line`). A call's number is its place there, from 1 on.
 use crate::args;
 use crate::args::Args;
 use crate::told;
@@ -14,8 +14,6 @@ pub const SWAP: u8 = 5;
 pub const PAIRS: u8 = 6;
 
 pub const ASCII: u8 = 7;
-
-pub const STRING: u8 = 8;
 
 pub const DEC: u8 = 9;
 
@@ -33,13 +31,9 @@ pub const WRITE: u8 = 16;
 
 pub const STATUS: u8 = 17;
 
-pub const ERROR_TEXT: u8 = 18;
-
 pub const DATALOG_PARSE: u8 = 19;
 
 pub const SYS0: u8 = 20;
-
-pub const DIRECTORY_SIZE: u8 = 21;
 
 pub const DIR: u8 = 22;
 
@@ -50,8 +44,6 @@ pub const CMD: u8 = 24;
 pub const GET: u8 = 25;
 
 pub const SET: u8 = 26;
-
-pub const DIRECTORY: u8 = 27;
 
 pub const FILL: u8 = 28;
 
@@ -108,7 +100,7 @@ fn of_line(line: &[u8], space: &mut [u8]) -> Args {
     a
 }
 
-// The fields of a call; these of `enc`, `set`, `write` and `spoil` are those before its KIND.
+// The fields of a call; the shapes of `enc`, `set`, `write` and `spoil` are those of the fields before KIND.
 fn of_call(call: u8, line: &[u8], shapes: &[u8], space: &mut [u8]) -> Args {
     if call == WRITE {
         return of_kind(line, shapes, b"raw:x text:x bool:1", space);
