@@ -1,8 +1,8 @@
 -- What the two calls want, and what they answer, as the law takes it.
 use denote.Enum.Laws as EL
 use denote.Struct.Laws as LL
-use Rattle.decode.proofs.Element as E
-use Rattle.decode.proofs.Element.Laws as E′
+use Rattle.values.proofs.Element as E
+use Rattle.values.proofs.Element.Laws as E′
 use Rattle.element.proofs.Setting as S
 use Rattle.element.proofs.Setting.Laws as S′
 use Rattle.element.proofs.Spot as P

@@ -1,12 +1,12 @@
 // Element access of the simulated processor, over the lent table.
-use decode::Element;
 use element::Setting;
 use element::Spot;
 use model::FileRecord;
 use model::Slc;
+use values::Element;
 use values::Stored;
 ghost use lib.ListN.{length};
-ghost use Rattle.decode.specs.Decode.{Reads};
+ghost use Rattle.values.specs.Decode.{Reads};
 ghost use Rattle.values.specs.Encode.{Stores};
 ghost use Rattle.model.specs.Elements.{readOf, setOf};
 ghost use Rattle.model.specs.Plain.{stateOf};

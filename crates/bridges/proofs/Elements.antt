@@ -4,8 +4,8 @@ use mathlib.Core.Path.{_≡_, subst, ap, _∙_}
 use mathlib.Core.List.{List}
 use lib.ListN.{length}
 use Rattle.base.specs.Outcome.{Outcome}
-use Rattle.decode.specs.declared.Element.{Element}
-use Rattle.decode.specs.Decode.{Says, Reads}
+use Rattle.values.specs.declared.Element.{Element}
+use Rattle.values.specs.Decode.{Says, Reads}
 use Rattle.values.specs.declared.Stored.{Stored}
 use Rattle.values.specs.Encode.{Stores}
 use Rattle.model.specs.declared.FileRecord.{FileRecord}

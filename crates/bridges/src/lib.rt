@@ -1,17 +1,17 @@
 // The processor's calls for programs. Covered code can't lend a table of records, so here it is an array by value: `processor::pccc_on` answers
 // a command, and these build a processor and reach its elements.
 use build_plan::Judged;
-use decode::Element;
 use element::Setting;
 use element::Spot;
 use model::Built;
 use model::FileRecord;
 use model::Slc;
 use table::Seen;
+use values::Element;
 use values::Stored;
 ghost use mathlib.Core.Path.{_≡_};
 ghost use lib.ListN.{length, replicate};
-ghost use Rattle.decode.specs.Decode.{Reads};
+ghost use Rattle.values.specs.Decode.{Reads};
 ghost use Rattle.values.specs.Encode.{Stores};
 ghost use Rattle.model.specs.Build.{newOf, planOf, raised};
 ghost use Rattle.model.specs.Elements.{readOf, setOf};

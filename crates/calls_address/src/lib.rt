@@ -3,7 +3,7 @@ use address::Address;
 use address::Maybe;
 use address::Parsed;
 use protocol::Args;
-use protocol::Told;
+use told::Told;
 
 // `tag TAG`
 pub fn answer(a: Args, space: &[u8], memory: &mut [u8]) -> Told {
@@ -16,9 +16,9 @@ pub fn answer(a: Args, space: &[u8], memory: &mut [u8]) -> Told {
 // CODE file element position sub bit count keptlength
 fn shown(a: Address, memory: &mut [u8]) -> usize {
     let t = a.file_type;
-    let b = protocol::put_code(memory, 0, b' ', t.code());
-    let c = protocol::put_number(memory, b, b' ', a.file_number as u64);
-    let d = protocol::put_number(memory, c, b' ', a.element_number as u64);
+    let b = told::put_code(memory, 0, b' ', t.code());
+    let c = told::put_number(memory, b, b' ', a.file_number as u64);
+    let d = told::put_number(memory, c, b' ', a.element_number as u64);
     let position = a.pos_number;
     let sub = a.sub_element;
     let e = maybe(position, memory, d);
@@ -27,14 +27,14 @@ fn shown(a: Address, memory: &mut [u8]) -> usize {
 }
 
 fn counts(bit: bool, count: u64, kept: usize, memory: &mut [u8], at: usize) -> usize {
-    let a = protocol::put_number(memory, at, b' ', bit as u64);
-    let b = protocol::put_number(memory, a, b' ', count);
-    protocol::put_number(memory, b, b' ', kept as u64)
+    let a = told::put_number(memory, at, b' ', bit as u64);
+    let b = told::put_number(memory, a, b' ', count);
+    told::put_number(memory, b, b' ', kept as u64)
 }
 
 fn maybe(m: Maybe, memory: &mut [u8], at: usize) -> usize {
     match m {
         Maybe::Missing => base::put_all(memory, at, b" -"),
-        Maybe::Is(n) => protocol::put_number(memory, at, b' ', n as u64),
+        Maybe::Is(n) => told::put_number(memory, at, b' ', n as u64),
     }
 }

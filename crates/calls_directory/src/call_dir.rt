@@ -71,8 +71,8 @@ fn say_row(f: [u32; 4], text: &mut [u8], out: &mut [u8], p: Place) -> Place {
 }
 
 fn row(f: [u32; 4], text: &mut [u8]) -> usize {
-    let a = protocol::put_code(text, 0, b' ', (f[0] % 256) as u8);
-    let b = protocol::put_number(text, a, b':', f[1] as u64);
-    let c = protocol::put_number(text, b, b':', f[2] as u64);
-    protocol::put_number(text, c, b':', f[3] as u64)
+    let a = told::put_code(text, 0, b' ', (f[0] % 256) as u8);
+    let b = told::put_number(text, a, b':', f[1] as u64);
+    let c = told::put_number(text, b, b':', f[2] as u64);
+    told::put_number(text, c, b':', f[3] as u64)
 }

@@ -5,9 +5,9 @@ mod call_dir;
 pub use call_dir::say_dir;
 use directory_size::DirectorySize;
 use protocol::Args;
-use protocol::Told;
 use protocol::calls;
 use sys0::Sys0Info;
+use told::Told;
 
 // `sys0 TYPETEXT`, `dirsize TYPETEXT RAWREPLY`
 pub fn answer(a: Args, space: &[u8], memory: &mut [u8]) -> Told {
@@ -20,16 +20,16 @@ pub fn answer(a: Args, space: &[u8], memory: &mut [u8]) -> Told {
 
 // firstrow rowsize FILETYPE SIZEELEMENT SIZELENGTH constant
 fn shown(i: Sys0Info, memory: &mut [u8]) -> usize {
-    let a = protocol::put_number(memory, 0, b' ', i.file_position as u64);
-    let b = protocol::put_number(memory, a, b' ', i.row_size as u64);
+    let a = told::put_number(memory, 0, b' ', i.file_position as u64);
+    let b = told::put_number(memory, a, b' ', i.row_size as u64);
     let c = codes(i, memory, b);
-    protocol::put_number(memory, c, b' ', i.size_const as u64)
+    told::put_number(memory, c, b' ', i.size_const as u64)
 }
 
 fn codes(i: Sys0Info, memory: &mut [u8], at: usize) -> usize {
-    let a = protocol::put_code(memory, at, b' ', i.file_type);
-    let b = protocol::put_code(memory, a, b' ', i.size_element);
-    protocol::put_code(memory, b, b' ', i.size_len)
+    let a = told::put_code(memory, at, b' ', i.file_type);
+    let b = told::put_code(memory, a, b' ', i.size_element);
+    told::put_code(memory, b, b' ', i.size_len)
 }
 
 // N, which may be negative
@@ -37,7 +37,7 @@ fn size(info: Sys0Info, raw: &[u8], memory: &mut [u8]) -> Told {
     match directory_size::parse_file_directory_size(raw, info) {
         DirectorySize::Refused(k) => Told::Refused(k),
         DirectorySize::Bytes(n) => {
-            Told::Text(protocol::put_signed(memory, 0, b' ', decimal::of_long(n)))
+            Told::Text(told::put_signed(memory, 0, b' ', decimal::of_long(n)))
         }
     }
 }

@@ -5,8 +5,8 @@ pub mod shown;
 use file_type::FileType;
 use file_type::Known;
 use protocol::Args;
-use protocol::Told;
 use protocol::calls;
+use told::Told;
 use values::Stored;
 use values::Value;
 

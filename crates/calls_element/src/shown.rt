@@ -1,7 +1,7 @@
 // An element as it is shown: `i:N`, `f:BITS`, `s:BYTES`, `t:word1:word2:bits`.
-use decode::Element;
 use file_type::FileType;
-use protocol::Told;
+use told::Told;
+use values::Element;
 
 // The value of an element, or its refusal. Its text stands in `text`.
 pub fn element(t: FileType, e: Element, text: &[u8], memory: &mut [u8]) -> Told {
@@ -16,7 +16,7 @@ pub fn element(t: FileType, e: Element, text: &[u8], memory: &mut [u8]) -> Told 
 
 fn whole(n: i32, memory: &mut [u8]) -> usize {
     let a = base::put_all(memory, 0, b" i");
-    protocol::put_signed(memory, a, b':', decimal::of_long(n))
+    told::put_signed(memory, a, b':', decimal::of_long(n))
 }
 
 fn float(bits: u32, memory: &mut [u8]) -> usize {
@@ -29,19 +29,19 @@ fn float(bits: u32, memory: &mut [u8]) -> usize {
         (low % 256) as u8,
     ];
     let a = base::put_all(memory, 0, b" f");
-    protocol::put_byte_string(memory, a, b':', &bytes)
+    told::put_byte_string(memory, a, b':', &bytes)
 }
 
 fn characters(text: &[u8], n: usize, memory: &mut [u8]) -> usize {
     let k = text::within(n, text);
     let a = base::put_all(memory, 0, b" s");
-    protocol::put_byte_string(memory, a, b':', &text[..k])
+    told::put_byte_string(memory, a, b':', &text[..k])
 }
 
 fn words_and_bits(t: FileType, a: i16, b: i16, w: u16, memory: &mut [u8]) -> usize {
     let c = base::put_all(memory, 0, b" t");
-    let d = protocol::put_signed(memory, c, b':', decimal::of_word(a));
-    let e = protocol::put_signed(memory, d, b':', decimal::of_word(b));
+    let d = told::put_signed(memory, c, b':', decimal::of_word(a));
+    let e = told::put_signed(memory, d, b':', decimal::of_word(b));
     let f = base::put_all(memory, e, b":");
     named_bits(t, w, memory, f)
 }

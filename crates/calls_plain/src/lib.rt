@@ -1,7 +1,7 @@
 // The calls of the line protocol that ask no processor, by their numbers. The bytes of fields stand in `space`, the answer in `memory`.
 use protocol::Args;
-use protocol::Told;
 use protocol::calls;
+use told::Told;
 
 pub fn answer(a: Args, space: &[u8], memory: &mut [u8]) -> Told {
     if a.call == calls::TAG {

@@ -1,11 +1,11 @@
 // The calls of the processor that stands in `store`.
-use decode::Element;
 use element::Setting;
 use element::Spot;
 use file_type::FileType;
 use file_type::Known;
 use model::Answered;
 use protocol::Args;
+use values::Element;
 use values::Stored;
 
 // What the processor answers, which stands in `store` as the command leaves it.

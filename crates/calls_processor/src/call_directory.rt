@@ -4,8 +4,8 @@ use crate::asked;
 use client_requests::Message;
 use frame::Requestor;
 use model::Answered;
-use protocol::Told;
 use sys0::Sys0Info;
+use told::Told;
 
 pub fn answer(memory: &mut [u8], store: &mut [u8]) -> Told {
     if sim_store::files(store) == 0 {

@@ -8,8 +8,8 @@ use element::Setting;
 use element::Spot;
 use model::Answered;
 use protocol::Args;
-use protocol::Told;
 use protocol::calls;
+use told::Told;
 use values::Stored;
 
 // `cmd BYTES`, `get CODE NUMBER ELEMENT`, `set CODE NUMBER ELEMENT KIND VALUE`, `directory`. The output of a reply, or of a text that is

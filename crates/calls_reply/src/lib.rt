@@ -1,9 +1,9 @@
 // The calls of the line protocol on replies (module 4). The bytes of fields stand in `space`, the answer in `memory`, of which a status
 // text gets `room` bytes.
 use protocol::Args;
-use protocol::Told;
 use protocol::calls;
 use status_text::StatusText;
+use told::Told;
 
 // `status RAWREPLY`, `errtext STATUS`, `datalogparse RAWREPLY`
 pub fn answer(a: Args, space: &[u8], memory: &mut [u8]) -> Told {

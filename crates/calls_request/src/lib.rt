@@ -2,10 +2,10 @@
 use client_requests::Message;
 use frame::Requestor;
 use protocol::Args;
-use protocol::Told;
 use protocol::calls;
 use request::Request;
 use request::Value;
+use told::Told;
 
 // `read TAG REQ SEQ`, `proc REQ SEQ`, `datalogreq QUEUE`, `dirsizereq TYPETEXT REQ SEQ`, `dirreadreq FILETYPE OFFSET SIZE REQ SEQ`,
 // `write TAG REQ SEQ KIND VALUE`. A request is built in the first `room` bytes of `memory`.

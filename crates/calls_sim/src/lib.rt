@@ -5,7 +5,7 @@ ghost use lib.ListN.{length, take};
 use model::FileRecord;
 use model::Made;
 use protocol::Args;
-use protocol::Told;
+use told::Told;
 
 pub fn answer(a: Args, line: &[u8], space: &[u8], memory: &mut [u8], store: &mut [u8]) -> Told {
     let n = text::within(a.start, line);

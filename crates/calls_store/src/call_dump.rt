@@ -2,7 +2,7 @@
 use model::FileRecord;
 
 pub fn shown(n: u16, memory: &mut [u8], store: &[u8]) -> usize {
-    let a = protocol::put_number(memory, 0, b' ', n as u64);
+    let a = told::put_number(memory, 0, b' ', n as u64);
     let b = files(n, store, memory, a);
     entries(store, memory, b)
 }
@@ -18,19 +18,19 @@ fn files(n: u16, store: &[u8], memory: &mut [u8], from: usize) -> usize {
 }
 
 fn file(r: FileRecord, store: &[u8], memory: &mut [u8], at: usize) -> usize {
-    let a = protocol::put_number(memory, at, b' ', r.number as u64);
-    let b = protocol::put_code(memory, a, b':', r.code);
+    let a = told::put_number(memory, at, b' ', r.number as u64);
+    let b = told::put_code(memory, a, b':', r.code);
     let start = text::within(r.start as usize, store);
     let rest = &store[start..];
     let n = text::within(r.length as usize, rest);
-    protocol::put_byte_string(memory, b, b':', &rest[..n])
+    told::put_byte_string(memory, b, b':', &rest[..n])
 }
 
 // The entries that are left, each a length word and its bytes.
 fn entries(store: &[u8], memory: &mut [u8], at: usize) -> usize {
     let s = sim_store::slc(store);
     let a = base::put_all(memory, at, b" log");
-    let b = protocol::put_number(memory, a, b' ', s.log_left as u64);
+    let b = told::put_number(memory, a, b' ', s.log_left as u64);
     let log = sim_store::log(store);
     listed(&log, s.log_at, s.log_left, memory, b)
 }
@@ -53,5 +53,5 @@ fn listed(log: &[u8], from: usize, count: usize, memory: &mut [u8], at: usize) -
 fn entry(rest: &[u8], n: usize, memory: &mut [u8], at: usize) -> usize {
     let a = text::within(2, rest);
     let bytes = &rest[a..];
-    protocol::put_byte_string(memory, at, b' ', &bytes[..text::within(n, bytes)])
+    told::put_byte_string(memory, at, b' ', &bytes[..text::within(n, bytes)])
 }

@@ -5,8 +5,8 @@ pub fn shown(n: u16, memory: &mut [u8], store: &[u8]) -> usize {
     let mut bytes = [0u8; 8];
     half(h.high, &mut bytes, 0);
     half(h.low, &mut bytes, 4);
-    let a = protocol::put_byte_string(memory, 0, b' ', &bytes);
-    protocol::put_number(memory, a, b' ', s.log_left as u64)
+    let a = told::put_byte_string(memory, 0, b' ', &bytes);
+    told::put_number(memory, a, b' ', s.log_left as u64)
 }
 
 // The bytes of the files, which lie end to end from 0 on.

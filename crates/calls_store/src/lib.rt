@@ -6,8 +6,8 @@ mod call_hash;
 mod call_spoil;
 
 use protocol::Args;
-use protocol::Told;
 use protocol::calls;
+use told::Told;
 
 // `fill NUMBER BYTES`, `spoil KIND ..`, `dump`, `hash`
 pub fn answer(a: Args, space: &[u8], memory: &mut [u8], store: &mut [u8]) -> Told {

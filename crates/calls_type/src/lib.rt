@@ -4,9 +4,9 @@ mod shown;
 use file_type::FileType;
 use file_type::Known;
 use protocol::Args;
-use protocol::Told;
 use protocol::calls;
 use swap::Swapped;
+use told::Told;
 
 pub fn answer(a: Args, space: &[u8], memory: &mut [u8]) -> Told {
     let k = a.call;

@@ -1,19 +1,19 @@
 // File types as answers show them.
 use file_type::FileType;
 use file_type::Name;
-use protocol::Told;
+use told::Told;
 
 fn name(n: Name, memory: &mut [u8], at: usize) -> usize {
     let text = n.text;
     let len = text::within(n.len, &text);
-    protocol::put_byte_string(memory, at, b' ', &text[..len])
+    told::put_byte_string(memory, at, b' ', &text[..len])
 }
 
 // NAME size CODE
 pub fn file_type(t: FileType, memory: &mut [u8]) -> usize {
     let a = name(t.name(), memory, 0);
-    let b = protocol::put_number(memory, a, b' ', t.element_size() as u64);
-    protocol::put_code(memory, b, b' ', t.code())
+    let b = told::put_number(memory, a, b' ', t.element_size() as u64);
+    told::put_code(memory, b, b' ', t.code())
 }
 
 // One of the simulator's types; T, C and R with the names of words 1 and 2 and of the status bits from bit 15 down.

@@ -3,9 +3,9 @@ ghost use Prim.Native.Nat.{_<_, _≤_};
 ghost use lib.ListN.{length};
 use libc::STDIN_FILENO;
 use protocol::Args;
-use protocol::Told;
 use protocol::calls;
 use say::Place;
+use told::Told;
 
 // The answer to a call. The bytes of its fields stand in `space`, the answer in `memory`, the simulated processor in `store`.
 fn call(a: Args, line: &[u8], space: &[u8], memory: &mut [u8], store: &mut [u8]) -> Told {
@@ -45,13 +45,13 @@ fn reply(
 ) -> Place {
     let a = protocol::read(line, space);
     if a.why != 0 {
-        return protocol::say_told(Told::Error(a.why), memory, out, p);
+        return told::say(Told::Error(a.why), memory, out, p);
     }
     if a.call == calls::DIR {
         return calls_directory::say_dir(a, space, out, p);
     }
     let told = call(a, line, space, memory, store);
-    protocol::say_told(told, memory, out, p)
+    told::say(told, memory, out, p)
 }
 
 // The answer to a line, which is the first `kept` bytes; where it fills the memory that lines have, it was longer than a line may be.
@@ -65,7 +65,7 @@ fn answer_line(
     p: Place,
 ) -> Place {
     if line.len() <= kept {
-        return protocol::say_told(Told::Error(protocol::LINE), memory, out, p);
+        return told::say(Told::Error(told::LINE), memory, out, p);
     }
     let n = text::within(kept, line);
     if is_echoed(&line[..n]) {

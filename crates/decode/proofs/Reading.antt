@@ -23,12 +23,12 @@ use Rattle.file_type.specs.Table.{row, bitNames}
 use Rattle.file_type.proofs.Fields.{bits-most}
 use Rattle.swap.specs.Text.{swapPairs}
 use Rattle.swap.proofs.Swap.{swap-length}
-use Rattle.decode.specs.declared.Element.{Element}
-use Rattle.decode.specs.declared.Element.the-variants as element
+use Rattle.values.specs.declared.Element.{Element}
+use Rattle.values.specs.declared.Element.the-variants as element
 use Rattle.values.specs.declared.kind.Kind.{Kind}
 use Rattle.values.specs.declared.kind.Kind.the-variants as kind
 use Rattle.values.specs.Encode.{kindOf}
-use Rattle.decode.specs.Decode.{namedBits, Says, refuses, textIn, wordAt, decodeAs, decoded, elementOf, textLeft, Reads}
+use Rattle.values.specs.Decode.{namedBits, Says, refuses, textIn, wordAt, decodeAs, decoded, elementOf, textLeft, Reads}
 use Rattle.whole.specs.Whole.{signed}
 
 -- ---- words and longs

@@ -15,7 +15,7 @@ use Rattle.base.proofs.Put.{put-first}
 use Rattle.whole.specs.Whole.{inRange, twos, signed}
 use Rattle.values.specs.declared.kind.Kind.the-variants as kind
 use Rattle.file_type.specs.declared.FileType.{FileType}
-use Rattle.decode.specs.Decode.{decodeAs, whole}
+use Rattle.values.specs.Decode.{decodeAs, whole}
 
 module _ (k ones half : ℕ) (w : suc ones ≡ 256 ^ k) (h : suc ones ≡ 2 * half) where
   -- a number from −half to half − 1, in k bytes, low byte first

@@ -8,7 +8,7 @@ use Rattle.base.specs.Chars.{bytes}
 use Rattle.base.specs.Numbers.{number}
 use Rattle.file_type.specs.declared.FileType.the-variants.{T, C, R, N, F, ST, A, L, PLS}
 use Rattle.swap.specs.Text.{swapPairs}
-use Rattle.decode.specs.Decode.{Says, refuses, whole, float, text, fields, decoded}
+use Rattle.values.specs.Decode.{Says, refuses, whole, float, text, fields, decoded}
 
 pub rows :
     (decoded N (0xFF ∷ 0xFF ∷ []) 0

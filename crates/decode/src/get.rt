@@ -4,10 +4,10 @@ ghost use Prim.Native.Nat.{_≤_, min};
 ghost use lib.ListN.{length, take, drop};
 ghost use Rattle.base.specs.Numbers.{number};
 ghost use Rattle.swap.specs.Text.{swapPairs};
-ghost use Rattle.decode.specs.Decode.{Reads, textIn, wordAt, namedBits};
+ghost use Rattle.values.specs.Decode.{Reads, textIn, wordAt, namedBits};
 ghost use Rattle.whole.specs.Whole.{signed};
-use crate::Element;
 use file_type::FileType;
+use values::Element;
 
 pub fn word(element: &[u8]) -> Element
     ensures { λ r. ⌜ r ≡ Element.Whole (signed 0xFFFF (wordAt 0 (now (element .entry)))) ⌝ }

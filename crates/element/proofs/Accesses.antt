@@ -12,9 +12,9 @@ use lib.Seq.{length-take-le, take-add, take-take, drop-drop, drop-append-le}
 use Rattle.base.specs.Outcome.{Outcome, refused, lays, left}
 use Rattle.base.specs.Put.{put}
 use Rattle.base.proofs.Put.{put-none}
-use Rattle.decode.specs.declared.Element.{Element}
-use Rattle.decode.specs.declared.Element.the-variants as element
-use Rattle.decode.specs.Decode.{Says, Reads, decoded}
+use Rattle.values.specs.declared.Element.{Element}
+use Rattle.values.specs.declared.Element.the-variants as element
+use Rattle.values.specs.Decode.{Says, Reads, decoded}
 use Rattle.values.specs.declared.Stored.{Stored}
 use Rattle.values.specs.declared.Stored.the-variants as stored
 use Rattle.values.specs.declared.Value.{Value}

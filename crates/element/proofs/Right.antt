@@ -9,7 +9,7 @@ use borrow.Author.Tests.{eqb-true, ltb-true}
 use lib.Dec.{leb, ltb, eqb}
 use lib.ListN.{length, take, drop}
 use Rattle.base.specs.Outcome.{Outcome, refused}
-use Rattle.decode.specs.Decode.{Says, refuses}
+use Rattle.values.specs.Decode.{Says, refuses}
 use Rattle.file_type.specs.declared.FileType.{FileType}
 use Rattle.file_type.specs.Table.{row}
 use Rattle.file_type.proofs.Table.{own-code}

@@ -6,7 +6,7 @@ use mathlib.Core.Option.{Option, none, some}
 use lib.Dec.{leb, eqb}
 use lib.ListN.{length}
 use Rattle.base.specs.Outcome.{Outcome, refused}
-use Rattle.decode.specs.Decode.{Says, refuses}
+use Rattle.values.specs.Decode.{Says, refuses}
 use Rattle.values.specs.declared.Value.{Value}
 use Rattle.file_type.specs.declared.FileType.{FileType}
 use Rattle.file_type.specs.Table.{row}

@@ -2,13 +2,13 @@
 ghost use mathlib.Core.Path.{_≡_};
 ghost use Prim.Native.Nat.{_≤_};
 ghost use lib.ListN.{length};
-ghost use Rattle.decode.specs.Decode.{Reads};
+ghost use Rattle.values.specs.Decode.{Reads};
 ghost use Rattle.values.specs.Encode.{Stores};
 ghost use Rattle.element.specs.Access.{placeOf, elementBy, readBy, setHere, setBy};
-use decode::Element;
 use file_type::FileType;
 use model::Slc;
 use table::Seen;
+use values::Element;
 use values::Stored;
 use values::Value;
 

@@ -2,11 +2,11 @@
 ghost use mathlib.Core.Path.{_≡_};
 ghost use Rattle.spelling.specs.Answers.{foundOf};
 ghost use Rattle.spelling.specs.Spelling.{separates, ct, lfbn, io, sta, keptOf, status, bits, lastForms, formOf};
+use cursor::Cur;
+use cursor::Number;
+use cursor::Place;
+use cursor::Word;
 use file_type::FileType;
-use parts::Cur;
-use parts::Number;
-use parts::Place;
-use parts::Word;
 use spelling::Address;
 use spelling::Found;
 use spelling::Maybe;
@@ -72,7 +72,7 @@ fn parse_lfbn(tag: &[u8]) -> Found
             sub_element: sub,
             bit: phrases::present(sub),
             element_count: count,
-            kept: parts::find(tag, b'{'),
+            kept: cursor::find(tag, b'{'),
         },
     )
 }
@@ -105,7 +105,7 @@ fn parse_io(tag: &[u8]) -> Found
             sub_element: Maybe::Is(phrases::or_zero(sub)),
             bit: phrases::present(sub),
             element_count: count,
-            kept: parts::find(tag, b'{'),
+            kept: cursor::find(tag, b'{'),
         },
     )
 }
@@ -138,7 +138,7 @@ fn parse_st_a(tag: &[u8], st: bool) -> Found
             sub_element: Maybe::Missing,
             bit: false,
             element_count: count,
-            kept: parts::find(tag, b'{'),
+            kept: cursor::find(tag, b'{'),
         },
     )
 }
@@ -148,7 +148,7 @@ fn kept_of(sub: Maybe, tag: &[u8]) -> usize
     ensures { λ r. ⌜ r ≡ keptOf sub (now (tag .entry)) ⌝ }
 {
     match sub {
-        Maybe::Missing => parts::find(tag, b'{'),
+        Maybe::Missing => cursor::find(tag, b'{'),
         Maybe::Is(_) => tag.len(),
     }
 }
@@ -214,7 +214,7 @@ fn parse_b(tag: &[u8]) -> Found
             sub_element: Maybe::Is(bit % 16),
             bit: true,
             element_count: count,
-            kept: parts::find(tag, b'{'),
+            kept: cursor::find(tag, b'{'),
         },
     )
 }

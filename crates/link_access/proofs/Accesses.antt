@@ -5,8 +5,8 @@ use mathlib.Core.Bool.{Bool, true, false}
 use mathlib.Core.List.{List}
 use lib.ListN.{length}
 use Rattle.base.specs.Outcome.{Outcome, refused}
-use Rattle.decode.specs.declared.Element.{Element}
-use Rattle.decode.specs.Decode.{Says, refuses, Reads}
+use Rattle.values.specs.declared.Element.{Element}
+use Rattle.values.specs.Decode.{Says, refuses, Reads}
 use Rattle.element.specs.declared.Setting.{Setting}
 use Rattle.element.specs.declared.Spot.{Spot}
 use Rattle.element.specs.Access.{readBy, setBy}

@@ -4,7 +4,7 @@ use mathlib.Core.Bool.{Bool, cond}
 use mathlib.Core.List.{List}
 use lib.ListN.{length}
 use Rattle.base.specs.Outcome.{Outcome, refused}
-use Rattle.decode.specs.Decode.{Says, refuses}
+use Rattle.values.specs.Decode.{Says, refuses}
 use Rattle.element.specs.declared.Setting.{Setting}
 use Rattle.element.specs.declared.Spot.{Spot}
 use Rattle.element.specs.Access.{readBy, setBy}

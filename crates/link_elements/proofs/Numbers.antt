@@ -12,9 +12,9 @@ use mir.Syntax.{w16, w32, w64}
 use mir.Val.{SFits, toZ, ofZ}
 use mir.ValLaws.{toZ-ofZ}
 use Rattle.base.specs.Outcome.{Outcome, refused}
-use Rattle.decode.specs.declared.Element.{Element}
-use Rattle.decode.specs.declared.Element.the-variants as element
-use Rattle.decode.specs.Decode.{Says, Reads}
+use Rattle.values.specs.declared.Element.{Element}
+use Rattle.values.specs.declared.Element.the-variants as element
+use Rattle.values.specs.Decode.{Says, Reads}
 use Rattle.values.specs.declared.kind.Kind.{Kind}
 use Rattle.values.specs.declared.kind.Kind.the-variants as kind
 use Rattle.values.specs.declared.Stored.{Stored}

@@ -8,9 +8,9 @@ use lib.Dec.{eqb}
 use lib.IntN.{ℤ, pos}
 use lib.ListN.{length}
 use Rattle.base.specs.Outcome.{Outcome, refused, left}
-use Rattle.decode.specs.declared.Element.{Element}
-use Rattle.decode.specs.declared.Element.the-variants as element
-use Rattle.decode.specs.Decode.{Says, refuses, decoded, elementOf, textLeft}
+use Rattle.values.specs.declared.Element.{Element}
+use Rattle.values.specs.declared.Element.the-variants as element
+use Rattle.values.specs.Decode.{Says, refuses, decoded, elementOf, textLeft}
 use Rattle.values.specs.declared.kind.Kind.{Kind}
 use Rattle.values.specs.declared.kind.Kind.the-variants as kind
 use Rattle.values.specs.declared.Stored.{Stored}

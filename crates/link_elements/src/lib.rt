@@ -1,11 +1,11 @@
 // The records of the C interface for values and elements: what is to be set and what is read, told in numbers.
 ghost use mathlib.Core.Path.{_≡_};
 ghost use lib.ListN.{length};
-ghost use Rattle.decode.specs.Decode.{decoded};
+ghost use Rattle.values.specs.Decode.{decoded};
 ghost use Rattle.values.specs.Encode.{encoded};
 ghost use Rattle.link_elements.specs.Elements.{lowHalf, misfitOf, valueOf, storedNumber, refusalOf, numbersOf, StoresInNumbers, ReadsInNumbers};
-use decode::Element;
 use file_type::FileType;
+use values::Element;
 use values::Stored;
 use values::Value;
 use values::kind::Kind;

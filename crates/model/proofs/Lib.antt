@@ -10,7 +10,6 @@ pub mod Directory
 pub mod Replies
 pub mod Building
 pub mod Elements
-pub mod Requests
 pub mod Masked
 pub mod Reader
 pub mod Rows

@@ -1,18 +1,29 @@
 -- The parameter reader by positions: what stands from `at` on.
 use Prim.Native.Nat.{ℕ, suc, _+_, _≤_, _<_}
 use mathlib.Core.Path.{_≡_, refl, ap, _∙_}
-use mathlib.Core.List.{List, [], _∷_}
+use mathlib.Core.List.{List, [], _∷_, _++_}
 use mathlib.Core.Option.{none, some}
+use native.Mathlib.Nat.{add-zero}
 use native.Mathlib.Numerals.{add-one, add-two}
 use native.Mathlib.Omega.{arith}
-use borrow.Author.Tests.{lt-leb, eq-eqb, ne-eqb}
-use lib.ListN.{length, getD, drop, length-drop}
-use lib.Seq.{drop-cons}
+use borrow.Author.Tests.{lt-leb, le-leb, eq-eqb, ne-eqb}
+use lib.ListN.{length, getD, drop, length-drop, length-append}
+use lib.Seq.{drop-cons, take-at, drop-at}
 use Rattle.base.specs.Numbers.{number}
 use Rattle.base.proofs.Parts.{drop-next}
 use Rattle.parts.specs.Parts.{then}
 use Rattle.model.specs.Params.{several, numberOf, address}
-use Rattle.model.proofs.Requests.{several-back, byte-back}
+
+-- so many bytes that stand in front are read
+pub several-back : (k : ℕ) (bs rest : List ℕ) → length bs ≡ k → several k (bs ++ rest) ≡ some (bs, rest)
+unfolding several
+several-back k bs rest e =
+    let l : k ≤ length (bs ++ rest) = simp length-append (omega arith) in
+    rw (le-leb k (length (bs ++ rest)) l, take-at bs rest k e, drop-at bs rest k e)
+
+pub byte-back : (b : ℕ) (rest : List ℕ) → numberOf 1 (b ∷ rest) ≡ some (b, rest)
+unfolding then number
+byte-back b rest = rw (several-back 1 (b ∷ []) rest refl, add-zero b)
 
 several-none : (k : ℕ) (l : List ℕ) → length l < k → several k l ≡ none
 unfolding several

@@ -8,7 +8,7 @@ use lib.IntN.{pos, negsuc}
 use lib.ListN.{take, drop, replicate}
 use Rattle.base.specs.Chars.{bytes}
 use Rattle.base.specs.Outcome.{refused, lays}
-use Rattle.decode.specs.Decode.{refuses, whole, decoded}
+use Rattle.values.specs.Decode.{refuses, whole, decoded}
 use Rattle.values.specs.declared.Value.the-variants as value
 use Rattle.values.specs.Encode.{encoded}
 use Rattle.file_type.specs.declared.FileType.the-variants.{N, F}

@@ -5,7 +5,7 @@ use mathlib.Core.List.{List}
 use mathlib.Core.Option.{Option, none, some}
 use lib.ListN.{take, drop}
 use Rattle.base.specs.Outcome.{Outcome, refused, lays}
-use Rattle.decode.specs.Decode.{Says, refuses, decoded}
+use Rattle.values.specs.Decode.{Says, refuses, decoded}
 use Rattle.values.specs.declared.Value.{Value}
 use Rattle.values.specs.Encode.{encoded}
 use Rattle.file_type.specs.declared.FileType.{FileType}

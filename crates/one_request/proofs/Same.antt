@@ -24,7 +24,7 @@ use Rattle.frame.specs.declared.Place.{Place}
 use Rattle.frame.specs.declared.Requestor.{Requestor}
 use Rattle.asking.specs.Request.{Asked, refused, sends, bitAndCount, place, readSize, readMessage, readAddress, onAddress, reading}
 use Rattle.model.specs.Params.{Header, header, address}
-use Rattle.model.proofs.Requests.{address-back, header-back}
+use Rattle.one_request.proofs.Requests.{address-back, header-back}
 use Rattle.one_request.specs.OneRequest.{OneRequest}
 
 -- ---- ranges

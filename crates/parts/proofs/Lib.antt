@@ -1,4 +1,2 @@
 pub mod Held
-pub mod Numbers
-pub mod Reading
 pub mod Written

@@ -5,14 +5,14 @@ ghost use mathlib.Core.Option.{some};
 ghost use lib.ListN.{drop};
 ghost use Rattle.file_type.specs.declared.FileType.the-variants.{C, T, L, F, B, N};
 ghost use Rattle.parts.specs.Parts.{ended, firstOf};
-ghost use Rattle.parts.specs.Answers.{placeOf, wordOf};
+ghost use Rattle.cursor.specs.Answers.{placeOf, wordOf};
 ghost use Rattle.spelling.specs.Answers.{typedOf, slotOf, bitOf, tailOf, foundOf};
 ghost use Rattle.spelling.specs.Spelling.{present as Spelling·present, orZero, fileBefore, optionalBit, bitCount, ignored, optionalPosition, slots, slot as Spelling·slot, stOrA};
+use cursor::Cur;
+use cursor::Number;
+use cursor::Place;
+use cursor::Word;
 use file_type::FileType;
-use parts::Cur;
-use parts::Number;
-use parts::Place;
-use parts::Word;
 use spelling::Address;
 use spelling::Bit;
 use spelling::Found;
@@ -127,7 +127,7 @@ fn ignore_number(c: Cur, s: &[u8]) -> Place
     ensures { λ r. ⌜ ignored (drop (c .i) (now (s .entry))) ≡ placeOf (now (s .entry)) r ⌝ }
 {
     let i = c.i;
-    if parts::digit_run(s, i) == 0 {
+    if cursor::digit_run(s, i) == 0 {
         return Place::At(c);
     }
     let Number::Got(_, d) = c.digits(s, 3) else {

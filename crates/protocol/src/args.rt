@@ -1,7 +1,6 @@
 // The fields of a line behind its first one.
 ghost use Prim.Native.Nat.{_≤_};
 ghost use lib.ListN.{length};
-use crate::told;
 use decimal::Decimal;
 use decimal::Whole;
 use text::Byte;

@@ -1,7 +1,6 @@
 // The calls of the line protocol: their names and the shapes of their fields, in one table (`of_line`). A call's number is its place there, from 1 on.
 use crate::args;
 use crate::args::Args;
-use crate::told;
 
 pub const TAG: u8 = 1;
 

@@ -6,7 +6,7 @@ use decimal::Decimal;
 use text::Byte;
 use text::Bytes;
 
-// How many entries a list has; 0, or why it is none (`protocol`).
+// How many entries a list has; 0, or why it is none (`told`).
 pub struct List {
     pub n: usize,
     pub why: u8,
@@ -35,16 +35,16 @@ fn no_file(why: u8) -> Wanted {
 // CODE:number:elements, cut at its first two colons.
 fn file(s: &[u8]) -> Wanted {
     let Byte::Is(code) = text::code(text::part(s, b':', 0)) else {
-        return no_file(protocol::HEX);
+        return no_file(told::HEX);
     };
     let Decimal::Is(number) = decimal::number(text::part(s, b':', 1)) else {
-        return no_file(protocol::NUMBER);
+        return no_file(told::NUMBER);
     };
     let Decimal::Is(elements) = decimal::number(text::part(s, b':', 2)) else {
-        return no_file(protocol::NUMBER);
+        return no_file(told::NUMBER);
     };
     if 3 < text::parts(s, b':') {
-        return no_file(protocol::NUMBER);
+        return no_file(told::NUMBER);
     }
     Wanted {
         row: [held(number), code as u32, held(elements)],
@@ -130,10 +130,7 @@ pub fn log(s: &[u8], space: &mut [u8], out: &mut [u8]) -> List {
         let got = entry(&s[at..e], space);
         let k = got.n;
         if !got.good {
-            return List {
-                n,
-                why: protocol::HEX,
-            };
+            return List { n, why: told::HEX };
         }
         place = lay(out, place, &space[..k]);
         longest = most(longest, k);

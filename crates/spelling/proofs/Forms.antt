@@ -12,11 +12,11 @@ use Rattle.base.proofs.Parts.{drop-next}
 use Rattle.file_type.specs.declared.FileType.{FileType}
 use Rattle.parts.specs.Numbers.{Run, digitRun}
 use Rattle.parts.specs.Parts.{Part, then, ended, whole, atEnd, letter, give, digits, beforeByte}
-use Rattle.parts.specs.Answers.{placeOf, numberAt}
-use Rattle.parts.specs.declared.Cur.{Cur}
-use Rattle.parts.specs.declared.Place.the-variants as place
-use Rattle.parts.specs.declared.Number.{Number}
-use Rattle.parts.specs.declared.Number.the-variants as number
+use Rattle.cursor.specs.Answers.{placeOf, numberAt}
+use Rattle.cursor.specs.declared.Cur.{Cur}
+use Rattle.cursor.specs.declared.Place.the-variants as place
+use Rattle.cursor.specs.declared.Number.{Number}
+use Rattle.cursor.specs.declared.Number.the-variants as number
 use Rattle.spelling.specs.Answers.{foundOf, typedOf}
 use Rattle.spelling.specs.Spelling.{address, keptOf, ignored, stOrA, orTry, formOf, separates, ascii, addressOf}
 use Rattle.spelling.specs.declared.Address.{Address}

@@ -6,8 +6,8 @@ use mathlib.Core.Option.{Option, none, some}
 use lib.ListN.{drop}
 use Rattle.file_type.specs.declared.FileType.{FileType}
 use Rattle.parts.specs.Parts.{Part, then}
-use Rattle.parts.specs.declared.Cur.{Cur}
-use Rattle.parts.proofs.Reading.{reading}
+use Rattle.cursor.specs.declared.Cur.{Cur}
+use Rattle.cursor.proofs.Reading.{reading}
 use Rattle.spelling.specs.Answers.{typedOf, slotOf, bitOf, tailOf, maybeOf, namedOf}
 use Rattle.spelling.specs.declared.Maybe.{Maybe}
 use Rattle.spelling.specs.declared.Maybe.the-variants as maybe

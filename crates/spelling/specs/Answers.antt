@@ -4,7 +4,7 @@ use mathlib.Core.List.{List, []}
 use mathlib.Core.Option.{Option, none, some}
 use lib.ListN.{drop, getD}
 use Rattle.base.specs.Chars.{bytes}
-use Rattle.parts.specs.declared.Cur.{Cur}
+use Rattle.cursor.specs.declared.Cur.{Cur}
 use Rattle.file_type.specs.declared.FileType.{FileType}
 use Rattle.spelling.specs.Spelling.{ctNames}
 use Rattle.spelling.specs.declared.Maybe.{Maybe}

@@ -1,6 +1,6 @@
 // The address spelling: the definitions of document 01 (specs/), their laws and rows (proofs/), and the plain data that their readers answer with.
+use cursor::Cur;
 use file_type::FileType;
-use parts::Cur;
 
 // A number that may be missing.
 pub enum Maybe {

@@ -15,7 +15,7 @@ use lib.Seq.{drop-cons, drop-drop, take-all, length-take-le}
 use Rattle.base.specs.Chars.{bytes, spelled}
 use Rattle.parts.specs.Numbers.{Run, digitRun, numberOf}
 use Rattle.parts.specs.Parts.{then, here, orElse, oneByte}
-use Rattle.parts.proofs.Reading.{one-end, one-at, here-no, here-yes}
+use Rattle.cursor.proofs.Reading.{one-end, one-at, here-no, here-yes}
 use Rattle.spelling.specs.Answers.{maybeOf, namedOf, ctName, ctValue}
 use Rattle.spelling.specs.Spelling.{ctNames, nameIn, cut, cuts, elementName}
 use Rattle.spelling.specs.declared.Maybe.{Maybe}

@@ -6,7 +6,7 @@ ghost use lib.ListN.{length, drop};
 ghost use Rattle.base.specs.Chars.{spelled};
 ghost use Rattle.spelling.specs.Answers.{maybeOf, namedOf, ctName, ctValue};
 ghost use Rattle.spelling.specs.Spelling.{ctNames, nameIn, separates, cut, elementName};
-use parts::Cur;
+use cursor::Cur;
 use spelling::Maybe;
 use spelling::Named;
 
@@ -83,7 +83,7 @@ fn cut_at(c: Cur, s: &[u8], k: usize) -> Named
     let Maybe::Is(n) = ct_bit(&s[f..]) else {
         return Named::No;
     };
-    Named::Got(parts::number_of(&s[i..e]), n)
+    Named::Got(cursor::number_of(&s[i..e]), n)
 }
 
 // The same with three digits or fewer, longest cut first.
@@ -91,7 +91,7 @@ pub fn element_name(c: Cur, s: &[u8]) -> Named
     ensures { λ r. ⌜ elementName separates (drop (c .i) (now (s .entry))) ≡ namedOf r ⌝ }
 {
     let i = c.i;
-    let run = parts::digit_run(s, i);
+    let run = cursor::digit_run(s, i);
     let mut k = base::least(run, 3);
     while 0 < k {
         let r = cut_at(c, s, k);

@@ -1,4 +1,4 @@
-// The values of the twelve file types, which of them suit a type, and by definition the bytes that they set.
+// The values of the twelve file types, which of them suit a type, and by definition the bytes that they set and the values that bytes give.
 pub mod kind;
 
 // A value to set. Text, and the name of a field, stand beside it.
@@ -14,4 +14,14 @@ pub enum Value {
 pub enum Stored {
     Refused(u8),
     Done,
+}
+
+// What reading an element answers. Text stands in the lent memory, so many bytes of it. Fields: words 1 and 2 of T, C and R,
+// and word 0 with the bits that have no name cleared.
+pub enum Element {
+    Refused(u8),
+    Whole(i32),
+    Float(u32),
+    Text(usize),
+    Fields(i16, i16, u16),
 }

@@ -2,7 +2,7 @@
 use mathlib.Core.Path.{subst}
 use mathlib.Core.List.{List}
 use lib.ListN.{length}
-use Rattle.decode.specs.Decode.{Says as Tells, Reads}
+use Rattle.values.specs.Decode.{Says as Tells, Reads}
 use Rattle.model.specs.Elements.{readOf}
 use Rattle.model.specs.Plain.{stateOf}
 use Rattle.element.specs.Access.{readBy}

@@ -1,5 +1,5 @@
 use Rattle.spelling.specs.Spelling.{ct}
-use Rattle.parts.proofs.Reading.{above, at-most}
+use Rattle.cursor.proofs.Reading.{above, at-most}
 use Rattle.spelling.proofs.Forms.{no-form, a-form}
 use Rattle.spelling.proofs.Reading.{forms}
 use borrow.Author.Needs.{needs}

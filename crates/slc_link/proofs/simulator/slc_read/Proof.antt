@@ -1,7 +1,7 @@
 -- `slc_read` is one more call of the shape of `access::read` (crate `access`, `Accessing.antt`), by a type code and with the answer in numbers.
 use mathlib.Core.Path.{subst}
 use lib.ListN.{length}
-use Rattle.decode.specs.Decode.{Says as Tells}
+use Rattle.values.specs.Decode.{Says as Tells}
 use Rattle.link_access.specs.Access.{readIn, readInBy}
 use Rattle.link_elements.specs.Elements.{ReadsInNumbers}
 use Rattle.link_access.proofs.Accesses.{read-in-is}
