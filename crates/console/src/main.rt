@@ -1,24 +1,40 @@
 // Answers the lines of oracle/PROTOCOL.md: one request a line on standard input, one answer a line on standard output.
+mod calls_address;
+mod calls_directory;
+mod calls_element;
+mod calls_plain;
+mod calls_processor;
+mod calls_reply;
+mod calls_request;
+mod calls_sim;
+mod calls_store;
+mod calls_type;
+mod protocol;
+mod say;
+mod sim_lists;
+mod sim_store;
+mod told;
+
 ghost use Prim.Native.Nat.{_<_, _≤_};
 ghost use lib.ListN.{length};
+use crate::protocol::Args;
+use crate::protocol::calls;
+use crate::say::Place;
+use crate::told::Told;
 use libc::STDIN_FILENO;
-use protocol::Args;
-use protocol::calls;
-use say::Place;
-use told::Told;
 
 // The answer to a call. The bytes of its fields stand in `space`, the answer in `memory`, the simulated processor in `store`.
 fn call(a: Args, line: &[u8], space: &[u8], memory: &mut [u8], store: &mut [u8]) -> Told {
     if a.call < calls::SIM {
-        return calls_plain::answer(a, space, memory);
+        return crate::calls_plain::answer(a, space, memory);
     }
     if a.call == calls::SIM {
-        return calls_sim::answer(a, line, space, memory, store);
+        return crate::calls_sim::answer(a, line, space, memory, store);
     }
     if a.call < calls::FILL {
-        return calls_processor::answer(a, space, memory, store);
+        return crate::calls_processor::answer(a, space, memory, store);
     }
-    calls_store::answer(a, space, memory, store)
+    crate::calls_store::answer(a, space, memory, store)
 }
 
 // Empty lines and lines that begin with `#` are echoed.
@@ -30,8 +46,8 @@ fn is_echoed(line: &[u8]) -> bool {
 }
 
 fn echo(line: &[u8], out: &mut [u8], p: Place) -> Place {
-    let q = say::plain(out, p, line);
-    say::plain(out, q, b"\n")
+    let q = crate::say::plain(out, p, line);
+    crate::say::plain(out, q, b"\n")
 }
 
 // The answer to a line that is no comment.
@@ -43,15 +59,15 @@ fn reply(
     out: &mut [u8],
     p: Place,
 ) -> Place {
-    let a = protocol::read(line, space);
+    let a = crate::protocol::read(line, space);
     if a.why != 0 {
-        return told::say(Told::Error(a.why), memory, out, p);
+        return crate::told::say(Told::Error(a.why), memory, out, p);
     }
     if a.call == calls::DIR {
-        return calls_directory::say_dir(a, space, out, p);
+        return crate::calls_directory::say_dir(a, space, out, p);
     }
     let told = call(a, line, space, memory, store);
-    told::say(told, memory, out, p)
+    crate::told::say(told, memory, out, p)
 }
 
 // The answer to a line, which is the first `kept` bytes; where it fills the memory that lines have, it was longer than a line may be.
@@ -65,7 +81,7 @@ fn answer_line(
     p: Place,
 ) -> Place {
     if line.len() <= kept {
-        return told::say(Told::Error(told::LINE), memory, out, p);
+        return crate::told::say(Told::Error(crate::told::LINE), memory, out, p);
     }
     let n = text::within(kept, line);
     if is_echoed(&line[..n]) {
@@ -200,7 +216,7 @@ fn turn(
         };
     }
     let t = answer_all(&input[..n], line, s, space, memory, store, out);
-    let q = say::flush(out, t.said);
+    let q = crate::say::flush(out, t.said);
     Went {
         state: State {
             kept: t.kept,
@@ -223,7 +239,7 @@ fn finish(
         return;
     }
     let q = answer_line(line, s.kept, space, memory, store, out, s.said);
-    say::flush(out, q);
+    crate::say::flush(out, q);
 }
 
 fn answer_input(
@@ -236,7 +252,7 @@ fn answer_input(
 ) {
     let mut s = State {
         kept: 0,
-        said: say::start(),
+        said: crate::say::start(),
     };
     let mut turns = u64::MAX;
     while turns > 0 {

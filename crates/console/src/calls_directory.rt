@@ -1,0 +1,43 @@
+// The calls of the line protocol on the file directory, client side (module 5). The bytes of fields stand in `space`, the
+// answer in `memory`.
+mod call_dir;
+
+use crate::protocol::Args;
+use crate::protocol::calls;
+use crate::told::Told;
+pub use call_dir::say_dir;
+use directory_size::DirectorySize;
+use sys0::Sys0Info;
+
+// `sys0 TYPETEXT`, `dirsize TYPETEXT RAWREPLY`
+pub fn answer(a: Args, space: &[u8], memory: &mut [u8]) -> Told {
+    let info = sys0::sys0_info(crate::protocol::part(space, a, 0));
+    if a.call == calls::SYS0 {
+        return Told::Text(shown(info, memory));
+    }
+    size(info, crate::protocol::part(space, a, 1), memory)
+}
+
+// firstrow rowsize FILETYPE SIZEELEMENT SIZELENGTH constant
+fn shown(i: Sys0Info, memory: &mut [u8]) -> usize {
+    let a = crate::told::put_number(memory, 0, b' ', i.file_position as u64);
+    let b = crate::told::put_number(memory, a, b' ', i.row_size as u64);
+    let c = codes(i, memory, b);
+    crate::told::put_number(memory, c, b' ', i.size_const as u64)
+}
+
+fn codes(i: Sys0Info, memory: &mut [u8], at: usize) -> usize {
+    let a = crate::told::put_code(memory, at, b' ', i.file_type);
+    let b = crate::told::put_code(memory, a, b' ', i.size_element);
+    crate::told::put_code(memory, b, b' ', i.size_len)
+}
+
+// N, which may be negative
+fn size(info: Sys0Info, raw: &[u8], memory: &mut [u8]) -> Told {
+    match directory_size::parse_file_directory_size(raw, info) {
+        DirectorySize::Refused(k) => Told::Refused(k),
+        DirectorySize::Bytes(n) => {
+            Told::Text(crate::told::put_signed(memory, 0, b' ', decimal::of_long(n)))
+        }
+    }
+}
