@@ -1,10 +1,10 @@
 // The address reader: a tag's text to the file, element, position, bit and count that it names.
-pub use spelling::Address;
-pub use spelling::Maybe;
-pub use spelling::Parsed;
+pub use address_spec::Address;
+pub use address_spec::Maybe;
+pub use address_spec::Parsed;
 ghost use mathlib.Core.Path.{_≡_};
-ghost use Rattle.spelling.specs.Spelling.{ascii, addressOf};
-use spelling::Found;
+ghost use Rattle.address_spec.specs.Spelling.{ascii, addressOf};
+use address_spec::Found;
 
 // Is each byte below 128?
 fn is_ascii(s: &[u8]) -> bool
@@ -30,7 +30,7 @@ pub fn parse_tag(tag: &[u8]) -> Parsed
     if !is_ascii(tag) {
         return Parsed::Refused(1);
     }
-    let Found::Is(a) = forms::parse_form(tag) else {
+    let Found::Is(a) = address_forms::parse_form(tag) else {
         return Parsed::Refused(2);
     };
     Parsed::Is(a)

@@ -8,12 +8,12 @@ use borrow.Author.Tests.{eq-eqb, ne-eqb}
 use lib.ListN.{length, getD, take, drop, length-drop, drop-of-length-le}
 use lib.Seq.{drop-drop, getD-drop, take-all}
 use Rattle.base.proofs.Parts.{drop-next}
-use Rattle.model.specs.declared.Slc.{Slc}
-use Rattle.model.specs.Frame.{body, cmd, function}
-use Rattle.model.specs.Params.{header}
-use Rattle.query.specs.declared.Query.{Query}
-use Rattle.query.specs.declared.Wants.the-variants as wants
-use Rattle.query.specs.Query.{plainly, functionQuery, bodyQuery, queryOf}
+use Rattle.processor_spec.specs.declared.Slc.{Slc}
+use Rattle.processor_spec.specs.Frame.{body, cmd, function}
+use Rattle.processor_spec.specs.Params.{header}
+use Rattle.processor_query.specs.declared.Query.{Query}
+use Rattle.processor_query.specs.declared.Wants.the-variants as wants
+use Rattle.processor_query.specs.Query.{plainly, functionQuery, bodyQuery, queryOf}
 
 module _ (slc : Slc) (c : List ℕ) (n : ℕ) (q : Query) (en : n ≡ getD c 0 0) where
   at-body : function c ≡ drop (n + 4) c

@@ -11,12 +11,12 @@ use lib.Seq.{length-take-le, take-all}
 use Rattle.base.specs.Put.{put, Puts}
 use Rattle.base.proofs.Parts.{drop-replicate}
 use Rattle.base.proofs.Put.{put-none, put-cons}
-use Rattle.swap.specs.Text.{fitted}
-use Rattle.model.specs.declared.Made.the-variants as made
-use Rattle.model.specs.declared.Slc.{Slc}
-use Rattle.model.specs.Build.{noSlc}
-use Rattle.build_plan.specs.declared.Judged.{Judged}
-use Rattle.build_plan.specs.Plans.{slcWith, ended, finishOf}
+use Rattle.element_text.specs.Text.{fitted}
+use Rattle.processor_spec.specs.declared.Made.the-variants as made
+use Rattle.processor_spec.specs.declared.Slc.{Slc}
+use Rattle.processor_spec.specs.Build.{noSlc}
+use Rattle.processor_build_spec.specs.declared.Judged.{Judged}
+use Rattle.processor_build_spec.specs.Plans.{slcWith, ended, finishOf}
 
 -- ---- zeros, one a turn
 module _ (l₀ l : List ℕ) (n i : ℕ) (inv : put l i (replicate (n - i) 0) ≡ put l₀ 0 (replicate n 0)) where

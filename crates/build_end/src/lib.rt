@@ -3,13 +3,13 @@ ghost use mathlib.Core.Path.{_≡_};
 ghost use Prim.Native.Nat.{min};
 ghost use lib.ListN.{length, replicate};
 ghost use Rattle.base.specs.Put.{put};
-ghost use Rattle.model.specs.Build.{noSlc};
-ghost use Rattle.swap.specs.Text.{fitted};
-ghost use Rattle.build_plan.specs.Plans.{slcWith, ended, finishOf};
-use build_plan::Judged;
-use model::Built;
-use model::Made;
-use model::Slc;
+ghost use Rattle.processor_spec.specs.Build.{noSlc};
+ghost use Rattle.element_text.specs.Text.{fitted};
+ghost use Rattle.processor_build_spec.specs.Plans.{slcWith, ended, finishOf};
+use processor_build_spec::Judged;
+use processor_spec::Built;
+use processor_spec::Made;
+use processor_spec::Slc;
 
 fn clear(memory: &mut [u8], total: usize)
     ensures { λ _. ⌜ now (memory .exit) ≡ put (now (memory .entry)) 0 (replicate (min total (length (now (memory .entry)))) 0) ⌝ }

@@ -7,11 +7,11 @@ use crate::protocol::calls;
 use crate::told::Told;
 pub use call_dir::say_dir;
 use directory_size::DirectorySize;
-use sys0::Sys0Info;
+use directory_sys0::Sys0Info;
 
 // `sys0 TYPETEXT`, `dirsize TYPETEXT RAWREPLY`
 pub fn answer(a: Args, space: &[u8], memory: &mut [u8]) -> Told {
-    let info = sys0::sys0_info(crate::protocol::part(space, a, 0));
+    let info = directory_sys0::sys0_info(crate::protocol::part(space, a, 0));
     if a.call == calls::SYS0 {
         return Told::Text(shown(info, memory));
     }

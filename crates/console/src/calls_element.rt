@@ -5,10 +5,10 @@ pub mod shown;
 use crate::protocol::Args;
 use crate::protocol::calls;
 use crate::told::Told;
+use element_spec::Stored;
+use element_spec::Value;
 use file_type::FileType;
 use file_type::Known;
-use values::Stored;
-use values::Value;
 
 // `dec CODE BYTES`, `enc CODE BYTES KIND VALUE`. The output of a text that is read has `room` bytes.
 pub fn answer(a: Args, space: &[u8], memory: &mut [u8]) -> Told {
@@ -38,7 +38,7 @@ fn decoded_in(
     memory: &mut [u8],
 ) -> Told {
     let n = text::within(room, text);
-    let e = decode::decode_element(t, element, &mut text[..n]);
+    let e = element_decode::decode_element(t, element, &mut text[..n]);
     shown::element(t, e, text, memory)
 }
 
@@ -65,7 +65,7 @@ fn encoded(t: FileType, a: Args, space: &[u8], memory: &mut [u8]) -> Told {
         base::put_all(memory, 0, crate::protocol::part(space, a, 1)),
         memory,
     );
-    match encode::encode_element(
+    match element_encode::encode_element(
         t,
         value_of(a),
         crate::protocol::part(space, a, 3),

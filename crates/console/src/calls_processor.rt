@@ -7,10 +7,10 @@ use crate::calls_element::shown;
 use crate::protocol::Args;
 use crate::protocol::calls;
 use crate::told::Told;
-use element::Setting;
-use element::Spot;
-use model::Answered;
-use values::Stored;
+use element_spec::Stored;
+use processor_element_core::Setting;
+use processor_element_core::Spot;
+use processor_spec::Answered;
 
 // `cmd BYTES`, `get CODE NUMBER ELEMENT`, `set CODE NUMBER ELEMENT KIND VALUE`, `directory`. The output of a reply, or of a text that is
 // read, has `room` bytes.

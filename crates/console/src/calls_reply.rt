@@ -3,7 +3,7 @@
 use crate::protocol::Args;
 use crate::protocol::calls;
 use crate::told::Told;
-use status_text::StatusText;
+use reply_status_text::StatusText;
 
 // `status RAWREPLY`, `errtext STATUS`, `datalogparse RAWREPLY`
 pub fn answer(a: Args, space: &[u8], memory: &mut [u8]) -> Told {
@@ -19,7 +19,7 @@ fn in_words(a: Args, space: &[u8], out: &mut [u8]) -> Told {
     if a.call == calls::STATUS {
         return of_text(reply::request_status(crate::protocol::part(space, a, 0), out));
     }
-    of_text(status_text::pccc_error_text(crate::protocol::byte(a, 0), out))
+    of_text(reply_status_text::pccc_error_text(crate::protocol::byte(a, 0), out))
 }
 
 fn of_text(t: StatusText) -> Told {

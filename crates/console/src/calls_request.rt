@@ -2,10 +2,10 @@
 use crate::protocol::Args;
 use crate::protocol::calls;
 use crate::told::Told;
-use client_requests::Message;
-use frame::Requestor;
 use request::Request;
 use request::Value;
+use request_frame::Requestor;
+use request_untagged::Message;
 
 // `read TAG REQ SEQ`, `proc REQ SEQ`, `datalogreq QUEUE`, `dirsizereq TYPETEXT REQ SEQ`, `dirreadreq FILETYPE OFFSET SIZE REQ SEQ`,
 // `write TAG REQ SEQ KIND VALUE`. A request is built in the first `room` bytes of `memory`.
@@ -31,7 +31,7 @@ fn asked(a: Args, space: &[u8], message: &mut [u8]) -> Told {
 fn other(a: Args, space: &[u8], message: &mut [u8]) -> Told {
     let k = a.call;
     if k == calls::DATALOG_REQUEST {
-        return of_message(client_requests::datalog_request(crate::protocol::byte(a, 0), message));
+        return of_message(request_untagged::datalog_request(crate::protocol::byte(a, 0), message));
     }
     if k == calls::SIZE_REQUEST {
         return directory_size(a, space, message);
@@ -95,13 +95,13 @@ fn write(a: Args, space: &[u8], message: &mut [u8]) -> Told {
 
 fn processor_type(a: Args, space: &[u8], message: &mut [u8]) -> Told {
     let q = requestor(crate::protocol::part(space, a, 0));
-    of_message(client_requests::processor_type_request(q, crate::protocol::word(a, 1), message))
+    of_message(request_untagged::processor_type_request(q, crate::protocol::word(a, 1), message))
 }
 
 fn directory_size(a: Args, space: &[u8], message: &mut [u8]) -> Told {
     let q = requestor(crate::protocol::part(space, a, 1));
-    let info = sys0::sys0_info(crate::protocol::part(space, a, 0));
-    of_message(client_requests::file_directory_size_request(
+    let info = directory_sys0::sys0_info(crate::protocol::part(space, a, 0));
+    of_message(request_untagged::file_directory_size_request(
         info,
         q,
         crate::protocol::word(a, 2),
@@ -112,7 +112,7 @@ fn directory_size(a: Args, space: &[u8], message: &mut [u8]) -> Told {
 fn directory_read(a: Args, space: &[u8], message: &mut [u8]) -> Told {
     let q = requestor(crate::protocol::part(space, a, 3));
     let offset = crate::protocol::number(a, 1) as usize;
-    of_message(client_requests::file_directory_read_request(
+    of_message(request_untagged::file_directory_read_request(
         crate::protocol::byte(a, 0),
         offset,
         crate::protocol::byte(a, 2),

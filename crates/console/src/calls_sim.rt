@@ -4,8 +4,8 @@ ghost use Prim.Native.Nat.{_≤_};
 ghost use lib.ListN.{length, take};
 use crate::protocol::Args;
 use crate::told::Told;
-use model::FileRecord;
-use model::Made;
+use processor_spec::FileRecord;
+use processor_spec::Made;
 
 pub fn answer(a: Args, line: &[u8], space: &[u8], memory: &mut [u8], store: &mut [u8]) -> Told {
     let n = text::within(a.start, line);
@@ -61,7 +61,7 @@ fn logged(
 
 fn raised(plc_type: &[u8], files: &[[u32; 3]], log: &[u8], count: usize, store: &mut [u8]) -> Made {
     let m = text::within(65535, store);
-    let r = bridges::new_on(files, plc_type, log, count, &mut store[..m]);
+    let r = processor_by_value::new_on(files, plc_type, log, count, &mut store[..m]);
     let rows = r.rows;
     let b = r.built;
     keep_rows(rows, store);

@@ -4,9 +4,9 @@ mod shown;
 use crate::protocol::Args;
 use crate::protocol::calls;
 use crate::told::Told;
+use element_text::Swapped;
 use file_type::FileType;
 use file_type::Known;
-use swap::Swapped;
 
 pub fn answer(a: Args, space: &[u8], memory: &mut [u8]) -> Told {
     let k = a.call;
@@ -41,13 +41,13 @@ fn of_bytes(k: u8, given: &[u8], memory: &mut [u8]) -> Told {
         return pairs(given, memory);
     }
     if k == calls::ASCII {
-        return Told::Bytes(base::put_all(memory, 0, &swap::encode_pccc_ascii(given)));
+        return Told::Bytes(base::put_all(memory, 0, &element_text::encode_pccc_ascii(given)));
     }
-    Told::Bytes(base::put_all(memory, 0, &swap::encode_pccc_string(given)))
+    Told::Bytes(base::put_all(memory, 0, &element_text::encode_pccc_string(given)))
 }
 
 fn swapped(given: &[u8], memory: &mut [u8]) -> Told {
-    match swap::slc_string_swap(given, memory) {
+    match element_text::slc_string_swap(given, memory) {
         Swapped::Refused(k) => Told::Refused(k),
         Swapped::Written(n) => Told::Bytes(n),
     }
@@ -55,6 +55,6 @@ fn swapped(given: &[u8], memory: &mut [u8]) -> Told {
 
 fn pairs(given: &[u8], memory: &mut [u8]) -> Told {
     let n = text::within(base::put_all(memory, 0, given), memory);
-    swap::swap_pairs(&mut memory[..n]);
+    element_text::swap_pairs(&mut memory[..n]);
     Told::Bytes(n)
 }

@@ -2,8 +2,8 @@
 ghost use mathlib.Core.Path.{_≡_};
 ghost use Prim.Native.Nat.{_≤_};
 ghost use lib.ListN.{length, take};
-use model::FileRecord;
-use model::Slc;
+use processor_spec::FileRecord;
+use processor_spec::Slc;
 
 // Places in the memory: the data of the files from 0 on, then the records, the processor's own numbers, and the datalog.
 pub const ROWS: usize = 65535;

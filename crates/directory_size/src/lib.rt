@@ -1,7 +1,7 @@
 // The file directory of a processor, client side: its size.
 ghost use mathlib.Core.Path.{_≡_};
 ghost use Rattle.directory_size.specs.Size.{sizeOf};
-use sys0::Sys0Info;
+use directory_sys0::Sys0Info;
 
 // The size of the directory in bytes, or the number of the question that was answered with no.
 pub enum DirectorySize {

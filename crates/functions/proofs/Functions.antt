@@ -4,7 +4,7 @@ use mathlib.Core.Path.{_≡_}
 use mathlib.Core.Bool.{Bool, true, false}
 use borrow.Author.Tests.{ne-eqb}
 use lib.Dec.{eqb}
-use Rattle.model.specs.Params.{knownFunction, writes, asksDirectory, asksDatalog}
+use Rattle.processor_spec.specs.Params.{knownFunction, writes, asksDirectory, asksDatalog}
 
 module _ (fn : ℕ) where
   pub writes-AA : fn ≡ 0xAA → true ≡ writes fn

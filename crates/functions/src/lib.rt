@@ -1,6 +1,6 @@
 // What the function codes of CMD 0x0F stand for.
 ghost use mathlib.Core.Path.{_≡_};
-ghost use Rattle.model.specs.Params.{knownFunction, writes as Params·writes, asksDirectory, asksDatalog};
+ghost use Rattle.processor_spec.specs.Params.{knownFunction, writes as Params·writes, asksDirectory, asksDatalog};
 
 pub fn known_function(function: u8) -> bool
     ensures { λ r. ⌜ r ≡ knownFunction function ⌝ }

@@ -12,19 +12,19 @@ use mir.Syntax.{w16, w32, w64}
 use mir.Val.{SFits, toZ, ofZ}
 use mir.ValLaws.{toZ-ofZ}
 use Rattle.base.specs.Outcome.{Outcome, refused}
-use Rattle.values.specs.declared.Element.{Element}
-use Rattle.values.specs.declared.Element.the-variants as element
-use Rattle.values.specs.Decode.{Says, Reads}
-use Rattle.values.specs.declared.kind.Kind.{Kind}
-use Rattle.values.specs.declared.kind.Kind.the-variants as kind
-use Rattle.values.specs.declared.Stored.{Stored}
-use Rattle.values.specs.declared.Value.{Value}
-use Rattle.values.specs.declared.Value.the-variants as value
-use Rattle.values.specs.Encode.{kindOf, encodeAs, encoded, Stores}
+use Rattle.element_spec.specs.declared.Element.{Element}
+use Rattle.element_spec.specs.declared.Element.the-variants as element
+use Rattle.element_spec.specs.Decode.{Says, Reads}
+use Rattle.element_spec.specs.declared.kind.Kind.{Kind}
+use Rattle.element_spec.specs.declared.kind.Kind.the-variants as kind
+use Rattle.element_spec.specs.declared.Stored.{Stored}
+use Rattle.element_spec.specs.declared.Value.{Value}
+use Rattle.element_spec.specs.declared.Value.the-variants as value
+use Rattle.element_spec.specs.Encode.{kindOf, encodeAs, encoded, Stores}
 use Rattle.file_type.specs.declared.FileType.{FileType}
 use Rattle.file_type.specs.Table.{row}
-use Rattle.whole.specs.declared.Parted.{Parted}
-use Rattle.whole.specs.Whole.{twos, joined}
+use Rattle.element_whole.specs.declared.Parted.{Parted}
+use Rattle.element_whole.specs.Whole.{twos, joined}
 use Rattle.link_elements.specs.declared.SlcElement.{SlcElement}
 use Rattle.link_elements.specs.declared.SlcValue.{SlcValue}
 use Rattle.link_elements.specs.Elements.{lowHalf, misfitFor, misfitOf, valueOf, storedNumber, refusalOf, numbersOf, StoresInNumbers, ReadsInNumbers}

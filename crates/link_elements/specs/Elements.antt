@@ -8,20 +8,20 @@ use lib.Dec.{eqb}
 use lib.IntN.{ℤ, pos}
 use lib.ListN.{length}
 use Rattle.base.specs.Outcome.{Outcome, refused, left}
-use Rattle.values.specs.declared.Element.{Element}
-use Rattle.values.specs.declared.Element.the-variants as element
-use Rattle.values.specs.Decode.{Says, refuses, decoded, elementOf, textLeft}
-use Rattle.values.specs.declared.kind.Kind.{Kind}
-use Rattle.values.specs.declared.kind.Kind.the-variants as kind
-use Rattle.values.specs.declared.Stored.{Stored}
-use Rattle.values.specs.declared.Stored.the-variants as stored
-use Rattle.values.specs.declared.Value.{Value}
-use Rattle.values.specs.declared.Value.the-variants as value
-use Rattle.values.specs.Encode.{kindOf, encoded, storedOf}
+use Rattle.element_spec.specs.declared.Element.{Element}
+use Rattle.element_spec.specs.declared.Element.the-variants as element
+use Rattle.element_spec.specs.Decode.{Says, refuses, decoded, elementOf, textLeft}
+use Rattle.element_spec.specs.declared.kind.Kind.{Kind}
+use Rattle.element_spec.specs.declared.kind.Kind.the-variants as kind
+use Rattle.element_spec.specs.declared.Stored.{Stored}
+use Rattle.element_spec.specs.declared.Stored.the-variants as stored
+use Rattle.element_spec.specs.declared.Value.{Value}
+use Rattle.element_spec.specs.declared.Value.the-variants as value
+use Rattle.element_spec.specs.Encode.{kindOf, encoded, storedOf}
 use Rattle.file_type.specs.declared.FileType.{FileType}
 use Rattle.file_type.specs.declared.Known.{Known}
 use Rattle.file_type.specs.declared.Known.the-variants as known
-use Rattle.whole.specs.Whole.{twos}
+use Rattle.element_whole.specs.Whole.{twos}
 use Rattle.link_elements.specs.declared.SlcElement.{SlcElement}
 use Rattle.link_elements.specs.declared.SlcValue.{SlcValue}
 

@@ -1,14 +1,14 @@
 // The records of the C interface for values and elements: what is to be set and what is read, told in numbers.
 ghost use mathlib.Core.Path.{_≡_};
 ghost use lib.ListN.{length};
-ghost use Rattle.values.specs.Decode.{decoded};
-ghost use Rattle.values.specs.Encode.{encoded};
+ghost use Rattle.element_spec.specs.Decode.{decoded};
+ghost use Rattle.element_spec.specs.Encode.{encoded};
 ghost use Rattle.link_elements.specs.Elements.{lowHalf, misfitOf, valueOf, storedNumber, refusalOf, numbersOf, StoresInNumbers, ReadsInNumbers};
+use element_spec::Element;
+use element_spec::Stored;
+use element_spec::Value;
+use element_spec::kind::Kind;
 use file_type::FileType;
-use values::Element;
-use values::Stored;
-use values::Value;
-use values::kind::Kind;
 
 const WHOLE: u8 = 0;
 
@@ -46,7 +46,7 @@ pub struct SlcElement {
 fn low_half(n: i64) -> u32
     ensures { λ r. ⌜ r ≡ lowHalf n ⌝ }
 {
-    let p = whole::apart(n);
+    let p = element_whole::apart(n);
     let size = p.size;
     if p.negative {
         return ((0xFFFF_FFFF_FFFF_FFFF - size) % 0x1_0000_0000) as u32;
@@ -58,7 +58,7 @@ fn low_half(n: i64) -> u32
 fn misfit(t: FileType) -> Value
     ensures { λ r. ⌜ r ≡ misfitOf t ⌝ }
 {
-    let k = values::kind::kind_of(t);
+    let k = element_spec::kind::kind_of(t);
     match k {
         Kind::Word => Value::Text,
         Kind::Long => Value::Text,
@@ -171,12 +171,12 @@ pub fn numbers_of(e: Element) -> SlcElement
 pub fn encode_element(t: FileType, v: SlcValue, text: &[u8], element: &mut [u8]) -> u8
     ensures { λ r. ⌜ StoresInNumbers (encoded t (valueOf t v) (now (text .entry)) (now (element .entry))) (now (element .entry)) r (now (element .exit)) ⌝ }
 {
-    stored_number(encode::encode_element(t, value_of(t, v), text, element))
+    stored_number(element_encode::encode_element(t, value_of(t, v), text, element))
 }
 
 // The bytes of one element, read.
 pub fn decode_element(t: FileType, element: &[u8], text: &mut [u8]) -> SlcElement
     ensures { λ r. ⌜ ReadsInNumbers (decoded t (now (element .entry)) (length (now (text .entry)))) (now (text .entry)) r (now (text .exit)) ⌝ }
 {
-    numbers_of(decode::decode_element(t, element, text))
+    numbers_of(element_decode::decode_element(t, element, text))
 }

@@ -2,12 +2,12 @@
 use Prim.Native.Nat.{ℕ}
 use mathlib.Core.Path.{_≡_, refl, ap, _∙_}
 use mathlib.Core.List.{List}
-use Rattle.build_plan.specs.Plans.{Ended, ended}
-use Rattle.model.specs.declared.Answered.the-variants as answered
-use Rattle.model.specs.declared.Built.{Built}
-use Rattle.model.specs.declared.Done.{Done}
-use Rattle.model.specs.declared.Made.the-variants as made
-use Rattle.model.specs.Pccc.{Left, left}
+use Rattle.processor_build_spec.specs.Plans.{Ended, ended}
+use Rattle.processor_spec.specs.declared.Answered.the-variants as answered
+use Rattle.processor_spec.specs.declared.Built.{Built}
+use Rattle.processor_spec.specs.declared.Done.{Done}
+use Rattle.processor_spec.specs.declared.Made.the-variants as made
+use Rattle.processor_spec.specs.Pccc.{Left, left}
 use Rattle.link_processor.specs.declared.SlcBuilt.{SlcBuilt}
 use Rattle.link_processor.specs.declared.SlcDone.{SlcDone}
 use Rattle.link_processor.specs.Answers.{answeredTo, doneOf, numbered, madeTo, builtOf, Finished}

@@ -2,17 +2,17 @@
 use Prim.Native.Nat.{ℕ}
 use mathlib.Core.Path.{_≡_}
 use mathlib.Core.List.{List}
-use Rattle.build_plan.specs.Plans.{Ended}
-use Rattle.model.specs.declared.Answered.{Answered}
-use Rattle.model.specs.declared.Answered.the-variants as answered
-use Rattle.model.specs.declared.Built.{Built}
-use Rattle.model.specs.declared.Done.{Done}
-use Rattle.model.specs.declared.FileRecord.{FileRecord}
-use Rattle.model.specs.declared.Made.{Made}
-use Rattle.model.specs.declared.Made.the-variants as made
-use Rattle.model.specs.declared.Slc.{Slc}
-use Rattle.model.specs.Build.{Raised}
-use Rattle.model.specs.Pccc.{Left, left, pcccOf}
+use Rattle.processor_build_spec.specs.Plans.{Ended}
+use Rattle.processor_spec.specs.declared.Answered.{Answered}
+use Rattle.processor_spec.specs.declared.Answered.the-variants as answered
+use Rattle.processor_spec.specs.declared.Built.{Built}
+use Rattle.processor_spec.specs.declared.Done.{Done}
+use Rattle.processor_spec.specs.declared.FileRecord.{FileRecord}
+use Rattle.processor_spec.specs.declared.Made.{Made}
+use Rattle.processor_spec.specs.declared.Made.the-variants as made
+use Rattle.processor_spec.specs.declared.Slc.{Slc}
+use Rattle.processor_spec.specs.Build.{Raised}
+use Rattle.processor_spec.specs.Pccc.{Left, left, pcccOf}
 use Rattle.link_processor.specs.declared.SlcBuilt.{SlcBuilt}
 use Rattle.link_processor.specs.declared.SlcDone.{SlcDone}
 

@@ -1,18 +1,18 @@
 // The simulated processor's records of the C interface, and the covered parts of its exported calls: each calls a proved function and tells
 // its answer in numbers.
 ghost use mathlib.Core.Path.{_≡_};
-ghost use Rattle.build_plan.specs.Plans.{finishOf};
-ghost use Rattle.questions.specs.Calls.{respondOf, showOf};
-ghost use Rattle.model.specs.Pccc.{left};
+ghost use Rattle.processor_build_spec.specs.Plans.{finishOf};
+ghost use Rattle.processor_refinement.specs.Calls.{respondOf, showOf};
+ghost use Rattle.processor_spec.specs.Pccc.{left};
 ghost use Rattle.link_processor.specs.Answers.{doneOf, numbered, builtOf, Finished};
-use build_plan::Judged;
-use model::Answered;
-use model::Built;
-use model::Done;
-use model::Made;
-use model::Slc;
-use query::Query;
-use table::Seen;
+use processor_build_spec::Judged;
+use processor_query::Query;
+use processor_spec::Answered;
+use processor_spec::Built;
+use processor_spec::Done;
+use processor_spec::Made;
+use processor_spec::Slc;
+use processor_table::Seen;
 
 // What a command answers: 0 and the length of the reply, or the number of the refusal.
 #[repr(C)]
@@ -60,7 +60,7 @@ pub fn respond(
 ) -> SlcDone
     ensures { λ r. ⌜ left r (now (memory .exit)) (now (reply .exit)) ≡ numbered (respondOf slc s q (now (memory .entry)) (now (log .entry)) (now (command .entry)) (now (reply .entry))) ⌝ }
 {
-    done_of(core::respond(slc, s, q, memory, log, command, reply))
+    done_of(processor_respond::respond(slc, s, q, memory, log, command, reply))
 }
 
 // A command for the directory, with which `d` begins.
@@ -76,7 +76,7 @@ pub fn show(
 ) -> SlcDone
     ensures { λ r. ⌜ left r (now (memory .exit)) (now (reply .exit)) ≡ numbered (showOf slc s q d (now (memory .entry)) (now (log .entry)) (now (command .entry)) (now (reply .entry))) ⌝ }
 {
-    done_of(shown::show(slc, s, q, d, memory, log, command, reply))
+    done_of(processor_show_directory::show(slc, s, q, d, memory, log, command, reply))
 }
 
 pub fn built_of(b: Built) -> SlcBuilt

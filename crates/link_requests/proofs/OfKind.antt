@@ -4,13 +4,13 @@ use mathlib.Core.Path.{_≡_, refl, sym}
 use mathlib.Core.Bool.{Bool, true, false, cond}
 use mathlib.Core.List.{List}
 use borrow.Author.Tests.{eq-eqb, ne-eqb}
-use Rattle.spelling.specs.declared.Address.{Address}
-use Rattle.spelling.specs.declared.Parsed.{Parsed}
-use Rattle.spelling.specs.declared.Parsed.the-variants as parsed
-use Rattle.spelling.specs.Spelling.{addressOf}
-use Rattle.asking.specs.declared.Request.the-variants as request
-use Rattle.asking.specs.declared.Value.the-variants as value
-use Rattle.asking.specs.Request.{Asked, refused, requestOf, left, onAddress, bitAndCount}
+use Rattle.address_spec.specs.declared.Address.{Address}
+use Rattle.address_spec.specs.declared.Parsed.{Parsed}
+use Rattle.address_spec.specs.declared.Parsed.the-variants as parsed
+use Rattle.address_spec.specs.Spelling.{addressOf}
+use Rattle.request_spec.specs.declared.Request.the-variants as request
+use Rattle.request_spec.specs.declared.Value.the-variants as value
+use Rattle.request_spec.specs.Request.{Asked, refused, requestOf, left, onAddress, bitAndCount}
 use Rattle.link_requests.specs.declared.kinds.Kind.{Kind}
 use Rattle.link_requests.specs.declared.kinds.Kind.the-variants as kind
 use Rattle.link_requests.specs.Kinds.{kindOf, unsuitedAddress, unsuited}

@@ -2,11 +2,11 @@
 use Prim.Native.Nat.{ℕ}
 use mathlib.Core.Path.{_≡_}
 use mir.Val.{boolByte}
-use Rattle.spelling.specs.declared.Address.{Address}
-use Rattle.spelling.specs.Spelling.{present, orZero}
+use Rattle.address_spec.specs.declared.Address.{Address}
+use Rattle.address_spec.specs.Spelling.{present, orZero}
 use Rattle.file_type.specs.Table.{row}
-use Rattle.asking.specs.declared.Request.{Request}
-use Rattle.asking.specs.declared.Request.the-variants as request
+use Rattle.request_spec.specs.declared.Request.{Request}
+use Rattle.request_spec.specs.declared.Request.the-variants as request
 use Rattle.link_types.specs.Types.{flag}
 use Rattle.link_types.proofs.Records.{as-flag}
 use Rattle.link_requests.specs.declared.requests.SlcAddress.{SlcAddress}

@@ -2,10 +2,10 @@
 use Prim.Native.Nat.{ℕ}
 use mathlib.Core.Path.{_≡_}
 use mathlib.Core.List.{List}
-use Rattle.frame.specs.declared.Requestor.{Requestor}
-use Rattle.asking.specs.declared.Request.{Request}
-use Rattle.asking.specs.declared.Value.{Value}
-use Rattle.asking.specs.Request.{Asked, Builds, requestOf, writing}
+use Rattle.request_frame.specs.declared.Requestor.{Requestor}
+use Rattle.request_spec.specs.declared.Request.{Request}
+use Rattle.request_spec.specs.declared.Value.{Value}
+use Rattle.request_spec.specs.Request.{Asked, Builds, requestOf, writing}
 use Rattle.link_types.proofs.Records.{through}
 use Rattle.link_requests.specs.declared.kinds.Kind.{Kind}
 use Rattle.link_requests.specs.declared.kinds.Kind.the-variants as kind

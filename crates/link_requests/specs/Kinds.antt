@@ -3,11 +3,11 @@ use Prim.Native.Nat.{ℕ}
 use mathlib.Core.Bool.{true, false, cond}
 use mathlib.Core.List.{List}
 use lib.Dec.{eqb}
-use Rattle.spelling.specs.declared.Address.{Address}
-use Rattle.spelling.specs.Spelling.{addressOf}
-use Rattle.frame.specs.declared.Requestor.{Requestor}
-use Rattle.asking.specs.declared.Value.the-variants as value
-use Rattle.asking.specs.Request.{Asked, refused, onAddress, bitAndCount, writing}
+use Rattle.address_spec.specs.declared.Address.{Address}
+use Rattle.address_spec.specs.Spelling.{addressOf}
+use Rattle.request_frame.specs.declared.Requestor.{Requestor}
+use Rattle.request_spec.specs.declared.Value.the-variants as value
+use Rattle.request_spec.specs.Request.{Asked, refused, onAddress, bitAndCount, writing}
 use Rattle.link_requests.specs.declared.kinds.Kind.{Kind}
 use Rattle.link_requests.specs.declared.kinds.Kind.the-variants as kind
 

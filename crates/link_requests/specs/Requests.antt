@@ -3,13 +3,13 @@ use Prim.Native.Nat.{ℕ}
 use mathlib.Core.Path.{_≡_}
 use mathlib.Core.List.{List}
 use Rattle.file_type.specs.Table.{row}
-use Rattle.spelling.specs.declared.Address.{Address}
-use Rattle.spelling.specs.declared.Parsed.{Parsed}
-use Rattle.spelling.specs.declared.Parsed.the-variants as parsed
-use Rattle.spelling.specs.Spelling.{present, orZero}
-use Rattle.asking.specs.declared.Request.{Request}
-use Rattle.asking.specs.declared.Request.the-variants as request
-use Rattle.asking.specs.Request.{Asked, requestOf, left}
+use Rattle.address_spec.specs.declared.Address.{Address}
+use Rattle.address_spec.specs.declared.Parsed.{Parsed}
+use Rattle.address_spec.specs.declared.Parsed.the-variants as parsed
+use Rattle.address_spec.specs.Spelling.{present, orZero}
+use Rattle.request_spec.specs.declared.Request.{Request}
+use Rattle.request_spec.specs.declared.Request.the-variants as request
+use Rattle.request_spec.specs.Request.{Asked, requestOf, left}
 use Rattle.link_types.specs.Types.{flag}
 use Rattle.link_requests.specs.declared.requests.SlcAddress.{SlcAddress}
 use Rattle.link_requests.specs.declared.requests.SlcRequest.{SlcRequest}

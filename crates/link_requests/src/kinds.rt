@@ -1,6 +1,6 @@
 // The kinds of a write.
 ghost use mathlib.Core.Path.{_≡_};
-ghost use Rattle.asking.specs.Request.{requestOf};
+ghost use Rattle.request_spec.specs.Request.{requestOf};
 ghost use Rattle.link_requests.specs.Kinds.{kindOf, unsuited as Kinds·unsuited};
 use address::Parsed;
 use request::Request;

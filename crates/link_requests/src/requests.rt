@@ -1,6 +1,6 @@
 // Addresses and requests.
 ghost use mathlib.Core.Path.{_≡_};
-ghost use Rattle.spelling.specs.Spelling.{present, orZero};
+ghost use Rattle.address_spec.specs.Spelling.{present, orZero};
 ghost use Rattle.link_types.specs.Types.{flag};
 ghost use Rattle.link_requests.specs.Requests.{noAddress, fullAddress, addressRecord, requestRecord};
 use address::Address;

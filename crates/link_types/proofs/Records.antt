@@ -14,7 +14,7 @@ use Rattle.file_type.specs.declared.Known.the-variants as known
 use Rattle.file_type.specs.declared.Name.{Name}
 use Rattle.file_type.specs.Table.{row, bitNames, Named}
 use Rattle.file_type.proofs.Fields.{bits-most}
-use Rattle.asking.proofs.Asking.{sizes}
+use Rattle.request_spec.proofs.Asking.{sizes}
 use Rattle.link_types.specs.declared.SlcField.{SlcField}
 use Rattle.link_types.specs.declared.SlcName.{SlcName}
 use Rattle.link_types.specs.Types.{flag, knownType, shortName, nameRecord, fieldIn, fieldRecord}

@@ -45,7 +45,7 @@ fn known_type(t: FileType) -> SlcFileType
         code: t.code(),
         element_size: t.element_size() as u8,
         simulated: t.simulated() as u8,
-        bits: fields::bits(t) as u8,
+        bits: file_type_fields::bits(t) as u8,
         name_len: n.len as u8,
         name,
     }
@@ -93,7 +93,7 @@ pub fn bit_name(k: Known, i: usize) -> SlcName
     ensures { λ r. ⌜ r ≡ nameRecord (bitNameIn k i) ⌝ }
 {
     match k {
-        Known::Is(t) => short_name(fields::bit_name(t, i)),
+        Known::Is(t) => short_name(file_type_fields::bit_name(t, i)),
         Known::Unknown => no_name(),
     }
 }
@@ -103,7 +103,7 @@ pub fn word_name(k: Known, i: usize) -> SlcName
     ensures { λ r. ⌜ r ≡ nameRecord (wordNameIn k i) ⌝ }
 {
     match k {
-        Known::Is(t) => short_name(fields::word_name(t, i)),
+        Known::Is(t) => short_name(file_type_fields::word_name(t, i)),
         Known::Unknown => no_name(),
     }
 }
@@ -123,7 +123,7 @@ pub fn field_of(k: Known, name: &[u8]) -> SlcField
     ensures { λ r. ⌜ r ≡ fieldRecord (fieldIn k (now (name .entry))) ⌝ }
 {
     match k {
-        Known::Is(t) => field_record(fields::field(t, name)),
+        Known::Is(t) => field_record(file_type_fields::field(t, name)),
         Known::Unknown => SlcField { kind: 0, index: 0 },
     }
 }

@@ -6,14 +6,14 @@ use mathlib.Core.List.{List}
 use borrow.Author.Tests.{le-leb}
 use lib.ListN.{length, take, replicate}
 use lib.Seq.{take-all, take-append-seam}
-use Rattle.swap.specs.Text.{fitted}
-use Rattle.sys0.specs.Families.{sys0}
-use Rattle.model.specs.Directory.{directory}
-use Rattle.model.proofs.Directory.{directory-fits}
-use Rattle.model.proofs.Tests.{and-both}
-use Rattle.questions.proofs.Right.{Fills}
-use Rattle.listing.specs.Listing.{directoryOf}
-use Rattle.listing.proofs.Right.{directory-is}
+use Rattle.element_text.specs.Text.{fitted}
+use Rattle.directory_sys0.specs.Families.{sys0}
+use Rattle.processor_spec.specs.Directory.{directory}
+use Rattle.processor_spec.proofs.Directory.{directory-fits}
+use Rattle.processor_spec.proofs.Tests.{and-both}
+use Rattle.processor_refinement.proofs.Right.{Fills}
+use Rattle.processor_directory.specs.Listing.{directoryOf}
+use Rattle.processor_directory.proofs.Right.{directory-is}
 
 front : (n : ℕ) (bs : List ℕ) → length bs ≤ n → take (length bs) (fitted n 0 bs) ≡ bs
 unfolding fitted

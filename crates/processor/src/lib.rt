@@ -1,9 +1,9 @@
 // The simulated processor's command, `Slc::pccc`, over the lent table.
-use model::Done;
-use model::FileRecord;
-use model::Slc;
+use processor_spec::Done;
+use processor_spec::FileRecord;
+use processor_spec::Slc;
 ghost use mathlib.Core.Path.{_≡_};
-ghost use Rattle.model.specs.Pccc.{Says};
+ghost use Rattle.processor_spec.specs.Pccc.{Says};
 
 // Answers a command: 16 to 18 where it is refused, which changes nothing. Only a command for the directory pays for it.
 pub fn pccc(
@@ -17,12 +17,12 @@ pub fn pccc(
     ensures { λ r. ⌜ Says slc (now (table .entry)) (now (memory .entry)) (now (log .entry)) (now (command .entry)) (now (reply .entry)) r (now (memory .exit)) (now (reply .exit)) ⌝ }
 {
     let q = asked::asked(slc, command);
-    let s = table::survey(table, slc.files, q.number);
+    let s = processor_table::survey(table, slc.files, q.number);
     if q.directory {
-        let d = listing::directory(table, slc.files, q, s);
-        shown::show(slc, s, q, d, memory, log, command, reply)
+        let d = processor_directory::directory(table, slc.files, q, s);
+        processor_show_directory::show(slc, s, q, d, memory, log, command, reply)
     } else {
-        core::respond(slc, s, q, memory, log, command, reply)
+        processor_respond::respond(slc, s, q, memory, log, command, reply)
     }
 }
 

@@ -5,7 +5,7 @@ use mathlib.Core.Option.{none, some}
 use mathlib.Core.List.{List, [], _∷_, _++_, map}
 use lib.ListN.{replicate}
 use Rattle.base.specs.Chars.{bytes}
-use Rattle.status_text.specs.Texts.{textOf}
+use Rattle.reply_status_text.specs.Texts.{textOf}
 use Rattle.reply.specs.Status.{inHex, statusText}
 
 -- a reply that has these bytes from byte 58 on

@@ -13,10 +13,10 @@ use lib.Seq.{drop-cons, take-all, take-nil}
 use Rattle.base.specs.Chars.{bytes}
 use Rattle.base.specs.Put.{put, Wrote, Puts}
 use Rattle.base.proofs.Put.{and-then, wrote-length}
-use Rattle.status_text.specs.declared.StatusText.{StatusText}
-use Rattle.status_text.specs.declared.StatusText.the-variants as statusText·
-use Rattle.status_text.specs.Texts.{textOf, Tells}
-use Rattle.status_text.proofs.Texts.{told}
+use Rattle.reply_status_text.specs.declared.StatusText.{StatusText}
+use Rattle.reply_status_text.specs.declared.StatusText.the-variants as statusText·
+use Rattle.reply_status_text.specs.Texts.{textOf, Tells}
+use Rattle.reply_status_text.proofs.Texts.{told}
 use Rattle.reply.specs.Status.{digit, inHex, first, byteAt, named, extended, said, statusText}
 
 -- ---- a byte in hexadecimal

@@ -6,7 +6,7 @@ use mathlib.Core.List.{List, [], _∷_, _++_}
 use lib.Dec.{eqb, ltb}
 use lib.ListN.{drop}
 use Rattle.base.specs.Chars.{bytes}
-use Rattle.status_text.specs.Texts.{textOf}
+use Rattle.reply_status_text.specs.Texts.{textOf}
 
 -- two small hexadecimal digits, as the Rust's `{:02x}`, behind a text, and a closing bracket
 abbrev pub digit : ℕ → ℕ

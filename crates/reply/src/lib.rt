@@ -5,10 +5,10 @@ ghost use Prim.Native.Nat.{_+_, _<_, _≤_};
 ghost use lib.ListN.{length};
 ghost use Rattle.base.specs.Chars.{bytes};
 ghost use Rattle.base.specs.Put.{Wrote};
-ghost use Rattle.status_text.specs.Texts.{Tells};
+ghost use Rattle.reply_status_text.specs.Texts.{Tells};
 ghost use Rattle.reply.specs.Status.{digit as Status·digit, inHex, byteAt, said, statusText, datalogEntry};
-use status_text::ROOM;
-use status_text::StatusText;
+use reply_status_text::ROOM;
+use reply_status_text::StatusText;
 
 // Where a raw reply has its status.
 const STATUS: usize = 58;
@@ -48,7 +48,7 @@ fn unknown(status: u8, out: &mut [u8]) -> StatusText
 fn extended(raw: &[u8], out: &mut [u8]) -> StatusText
     ensures { λ r. ⌜ Tells (said (some 0xF0) (byteAt 61 (now (raw .entry)))) (now (out .entry)) r (now (out .exit)) ⌝ }
 {
-    let text = status_text::pccc_error_text(0xF0, out);
+    let text = reply_status_text::pccc_error_text(0xF0, out);
     if raw.len() <= START {
         return text;
     }
@@ -83,7 +83,7 @@ pub fn request_status(raw: &[u8], out: &mut [u8]) -> StatusText
     if status == 0xF0 {
         return extended(raw, out);
     }
-    let text = status_text::pccc_error_text(status, out);
+    let text = reply_status_text::pccc_error_text(status, out);
     match text {
         StatusText::Nothing => unknown(status, out),
         StatusText::Written(n) => StatusText::Written(n),

@@ -11,23 +11,23 @@ use lib.Dec.{leb, ltb, eqb}
 use lib.ListN.{length, length-append}
 use Rattle.base.specs.Put.{Wrote, Puts}
 use Rattle.file_type.specs.declared.FileType.the-variants.{T, C}
-use Rattle.spelling.specs.declared.Address.{Address}
-use Rattle.spelling.specs.declared.Parsed.{Parsed}
-use Rattle.spelling.specs.declared.Parsed.the-variants as parsed
-use Rattle.spelling.specs.Elements.{Elements, elementsOf}
-use Rattle.spelling.specs.Spelling.{addressOf, orZero}
-use Rattle.spelling.proofs.Ranges.{small}
-use Rattle.frame.specs.Frame.{Lays, addressField, typed, typedLength}
-use Rattle.frame.specs.declared.Place.{Place}
-use Rattle.frame.specs.declared.Requestor.{Requestor}
-use Rattle.frame.proofs.Laid.{lays, then, short-length, field-most}
-use Rattle.asking.specs.Answers.{sized, sizeOf, dataSizeOf}
-use Rattle.asking.specs.Request.{Asked, refused, sends, Builds, bitAndCount, place, readSize, readMessage, readAddress, onAddress, is, presetOrAccum, suits, supplied, lastAddress, writeMessage, writeData, writeAddress}
-use Rattle.asking.specs.declared.Request.{Request}
-use Rattle.asking.specs.declared.Request.the-variants as request
-use Rattle.asking.specs.declared.Value.{Value}
-use Rattle.asking.specs.declared.Size.{Size}
-use Rattle.asking.specs.declared.Size.the-variants as size
+use Rattle.address_spec.specs.declared.Address.{Address}
+use Rattle.address_spec.specs.declared.Parsed.{Parsed}
+use Rattle.address_spec.specs.declared.Parsed.the-variants as parsed
+use Rattle.address_spec.specs.Elements.{Elements, elementsOf}
+use Rattle.address_spec.specs.Spelling.{addressOf, orZero}
+use Rattle.address_spec.proofs.Ranges.{small}
+use Rattle.request_frame.specs.Frame.{Lays, addressField, typed, typedLength}
+use Rattle.request_frame.specs.declared.Place.{Place}
+use Rattle.request_frame.specs.declared.Requestor.{Requestor}
+use Rattle.request_frame.proofs.Laid.{lays, then, short-length, field-most}
+use Rattle.request_spec.specs.Answers.{sized, sizeOf, dataSizeOf}
+use Rattle.request_spec.specs.Request.{Asked, refused, sends, Builds, bitAndCount, place, readSize, readMessage, readAddress, onAddress, is, presetOrAccum, suits, supplied, lastAddress, writeMessage, writeData, writeAddress}
+use Rattle.request_spec.specs.declared.Request.{Request}
+use Rattle.request_spec.specs.declared.Request.the-variants as request
+use Rattle.request_spec.specs.declared.Value.{Value}
+use Rattle.request_spec.specs.declared.Size.{Size}
+use Rattle.request_spec.specs.declared.Size.the-variants as size
 
 -- ---- 1 and 2
 module _ (tag : List ℕ) (f : Address → Asked) {p : Parsed} {l : List ℕ} (e : p ≡ addressOf tag) where

@@ -1,12 +1,12 @@
 // Requests that read and write what an address text names.
-pub use asking::Request;
-pub use asking::Value;
-pub use asking::bit_and_count;
+pub use request_spec::Request;
+pub use request_spec::Value;
+pub use request_spec::bit_and_count;
 ghost use mathlib.Core.Path.{_≡_};
-ghost use Rattle.asking.specs.Request.{Builds, reading, writing};
-use asking::Size;
-use frame::Requestor;
-use spelling::Parsed;
+ghost use Rattle.request_spec.specs.Request.{Builds, reading, writing};
+use address_spec::Parsed;
+use request_frame::Requestor;
+use request_spec::Size;
 
 // The message that reads what a tag names. Refused with 1, 2, 3, 5 and 6.
 pub fn read_request(tag: &[u8], q: Requestor, sequence: u16, out: &mut [u8]) -> Request
@@ -16,17 +16,17 @@ pub fn read_request(tag: &[u8], q: Requestor, sequence: u16, out: &mut [u8]) -> 
     match parsed {
         Parsed::Refused(n) => Request::Refused(n),
         Parsed::Is(x) => {
-            if asking::bit_and_count(x) {
+            if request_spec::bit_and_count(x) {
                 return Request::Refused(3);
             }
-            let Size::Is(size) = asking::read_size(x) else {
+            let Size::Is(size) = request_spec::read_size(x) else {
                 return Request::Refused(5);
             };
             if out.len() < 27 {
                 return Request::Refused(6);
             }
-            let p = asking::place(x, asking::position(x));
-            let n = frame::put_typed(out, q, sequence, 0xA2, size, p);
+            let p = request_spec::place(x, request_spec::position(x));
+            let n = request_frame::put_typed(out, q, sequence, 0xA2, size, p);
             Request::Built(x, n)
         }
     }
@@ -47,20 +47,20 @@ pub fn write_request(
     match parsed {
         Parsed::Refused(n) => Request::Refused(n),
         Parsed::Is(x) => {
-            if asking::bit_and_count(x) {
+            if request_spec::bit_and_count(x) {
                 return Request::Refused(3);
             }
-            if !write_asking::suits(v, x) {
+            if !request_write::suits(v, x) {
                 return Request::Refused(4);
             }
-            let Size::Is(size) = write_asking::size(v, bytes, x) else {
+            let Size::Is(size) = request_write::size(v, bytes, x) else {
                 return Request::Refused(5);
             };
             if out.len() < 284 {
                 return Request::Refused(6);
             }
-            let p = asking::place(x, write_asking::last_address(x));
-            let n = frame::put_typed(out, q, sequence, 0xAB, size, p);
+            let p = request_spec::place(x, request_write::last_address(x));
+            let n = request_frame::put_typed(out, q, sequence, 0xAB, size, p);
             let m = written_data::put(out, n, v, bytes, x);
             Request::Built(x, m)
         }

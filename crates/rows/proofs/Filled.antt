@@ -18,16 +18,16 @@ use Rattle.base.specs.Put.{put}
 use Rattle.base.proofs.Numbers.{low-length}
 use Rattle.base.proofs.Parts.{drop-replicate}
 use Rattle.base.proofs.Put.{put-one, put-cons}
-use Rattle.swap.specs.Text.{fitted}
-use Rattle.sys0.specs.declared.Sys0Info.{Sys0Info}
-use Rattle.sys0.specs.Families.{families, familyIn, sys0}
-use Rattle.model.specs.declared.FileRecord.{FileRecord}
-use Rattle.model.specs.Directory.{fileRow, fileRows, lastNumber, directory}
-use Rattle.model.specs.Files.{find}
-use Rattle.model.specs.State.{every, ascend, goodTable}
-use Rattle.model.proofs.Tests.{and-l, and-r, cases}
-use Rattle.model.proofs.Directory.{fitted-length, directory-length, directory-fits}
-use Rattle.table.specs.Steps.{folded}
+use Rattle.element_text.specs.Text.{fitted}
+use Rattle.directory_sys0.specs.declared.Sys0Info.{Sys0Info}
+use Rattle.directory_sys0.specs.Families.{families, familyIn, sys0}
+use Rattle.processor_spec.specs.declared.FileRecord.{FileRecord}
+use Rattle.processor_spec.specs.Directory.{fileRow, fileRows, lastNumber, directory}
+use Rattle.processor_spec.specs.Files.{find}
+use Rattle.processor_spec.specs.State.{every, ascend, goodTable}
+use Rattle.processor_spec.proofs.Tests.{and-l, and-r, cases}
+use Rattle.processor_spec.proofs.Directory.{fitted-length, directory-length, directory-fits}
+use Rattle.processor_table.specs.Steps.{folded}
 use Rattle.rows.specs.Rows.{rowAt, markedAt, marked, storedRow, zeros, blankOf}
 
 -- ---- bytes laid in one of two parts

@@ -9,7 +9,7 @@ use mir.Syntax.{w64}
 use mir.Val.{Fits}
 use borrow.Author.Tests.{lt-ltb, le-ltb}
 use lib.ListN.{set}
-use Rattle.model.specs.declared.FileRecord.{FileRecord}
+use Rattle.processor_spec.specs.declared.FileRecord.{FileRecord}
 use Rattle.rows.specs.Rows.{rowAt, markedAt, marked, storedRow}
 
 product : {a b : ℕ} → a < 256 → b < 65536 → a * b ≤ 255 * 65535

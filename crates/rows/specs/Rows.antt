@@ -5,7 +5,7 @@ use mathlib.Core.Bool.{cond}
 use mathlib.Core.List.{List}
 use lib.Dec.{ltb}
 use lib.ListN.{set, replicate}
-use Rattle.model.specs.declared.FileRecord.{FileRecord}
+use Rattle.processor_spec.specs.declared.FileRecord.{FileRecord}
 
 -- where the row of a number begins
 abbrev pub rowAt : ℕ → ℕ → ℕ → ℕ

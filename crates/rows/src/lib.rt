@@ -1,5 +1,5 @@
 // The file directory's rows: "The directory starts as at most 2,793 zero bytes", and rows are stored over it.
-use model::FileRecord;
+use processor_spec::FileRecord;
 ghost use mathlib.Core.Path.{_≡_};
 ghost use Rattle.rows.specs.Rows.{rowAt, markedAt, blankOf, storedRow};
 

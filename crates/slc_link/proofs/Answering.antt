@@ -4,18 +4,18 @@ use mir.Val.{vint, vcons, vnil}
 use denote.Builtin.{u8}
 use denote.Plain.{uint-tells, uint-lawful, uint-makes}
 use denote.Struct.Laws as LL
-use Rattle.table.proofs.Surveying.{State, of-struct}
-use Rattle.access.proofs.Accessing.{Wanted}
+use Rattle.processor_table.proofs.Surveying.{State, of-struct}
+use Rattle.processor_element.proofs.Accessing.{Wanted}
 use Rattle.link_processor.proofs.SlcBuilt as B
 use Rattle.link_processor.proofs.SlcBuilt.Laws as B′
 use Rattle.link_processor.proofs.SlcDone as D
 use Rattle.link_processor.proofs.SlcDone.Laws as D′
 use Rattle.link_elements.proofs.SlcElement as E
 use Rattle.link_elements.proofs.SlcElement.Laws as E′
-use Rattle.link_access.proofs.SlcSetting as S
-use Rattle.link_access.proofs.SlcSetting.Laws as S′
-use Rattle.link_access.proofs.SlcSpot as P
-use Rattle.link_access.proofs.SlcSpot.Laws as P′
+use Rattle.link_element_access.proofs.SlcSetting as S
+use Rattle.link_element_access.proofs.SlcSetting.Laws as S′
+use Rattle.link_element_access.proofs.SlcSpot as P
+use Rattle.link_element_access.proofs.SlcSpot.Laws as P′
 use Rattle.link_elements.proofs.SlcValue as A
 use Rattle.link_elements.proofs.SlcValue.Laws as A′
 

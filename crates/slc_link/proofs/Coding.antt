@@ -3,8 +3,8 @@ use Prim.Native.Nat.{ℕ}
 use mathlib.Core.Path.{_≡_, refl, sym, subst, _∙_}
 use mathlib.Core.List.{List}
 use lib.ListN.{length}
-use Rattle.values.specs.Decode.{decoded}
-use Rattle.values.specs.Encode.{encoded}
+use Rattle.element_spec.specs.Decode.{decoded}
+use Rattle.element_spec.specs.Encode.{encoded}
 use Rattle.file_type.specs.declared.FileType.{FileType}
 use Rattle.file_type.specs.declared.Known.{Known}
 use Rattle.file_type.specs.declared.Known.the-variants as known

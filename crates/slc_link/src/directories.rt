@@ -3,19 +3,19 @@ ghost use mathlib.Core.Path.{_≡_};
 ghost use lib.ListN.{length};
 ghost use Rattle.directory.specs.Rows.{listed};
 ghost use Rattle.directory_size.specs.Size.{sizeOf};
-ghost use Rattle.client_requests.specs.Requests.{directorySize, directoryRead};
-ghost use Rattle.link_written.specs.Written.{Sends, Lists, sizeRecord};
-ghost use Rattle.sys0.specs.Families.{sys0};
-use frame::Requestor;
-use link_written::SlcDirectorySize;
-use link_written::SlcWritten;
-use sys0::Sys0Info;
+ghost use Rattle.request_untagged.specs.Requests.{directorySize, directoryRead};
+ghost use Rattle.link_texts.specs.Written.{Sends, Lists, sizeRecord};
+ghost use Rattle.directory_sys0.specs.Families.{sys0};
+use directory_sys0::Sys0Info;
+use link_texts::SlcDirectorySize;
+use link_texts::SlcWritten;
+use request_frame::Requestor;
 
 #[no_mangle]
 pub extern "C" fn slc_sys0_info(plc_type: &[u8]) -> Sys0Info
     ensures { λ r. ⌜ r ≡ sys0 (now («plc_type» .entry)) ⌝ }
 {
-    sys0::sys0_info(plc_type)
+    directory_sys0::sys0_info(plc_type)
 }
 
 #[no_mangle]
@@ -27,7 +27,7 @@ pub extern "C" fn slc_file_directory_size_request(
 ) -> SlcWritten
     ensures { λ r. ⌜ Sends (directorySize info q sequence (now (out .entry))) (now (out .entry)) r (now (out .exit)) ⌝ }
 {
-    link_written::message_record(client_requests::file_directory_size_request(
+    link_texts::message_record(request_untagged::file_directory_size_request(
         info,
         q,
         sequence,
@@ -46,7 +46,7 @@ pub extern "C" fn slc_file_directory_read_request(
 ) -> SlcWritten
     ensures { λ r. ⌜ Sends (directoryRead «file_type» offset size q sequence (now (out .entry))) (now (out .entry)) r (now (out .exit)) ⌝ }
 {
-    link_written::message_record(client_requests::file_directory_read_request(
+    link_texts::message_record(request_untagged::file_directory_read_request(
         file_type,
         offset,
         size,
@@ -60,7 +60,7 @@ pub extern "C" fn slc_file_directory_read_request(
 pub extern "C" fn slc_parse_file_directory_size(raw: &[u8], info: Sys0Info) -> SlcDirectorySize
     ensures { λ r. ⌜ r ≡ sizeRecord (sizeOf (now (raw .entry)) (info .«size_const»)) ⌝ }
 {
-    link_written::size_record(directory_size::parse_file_directory_size(raw, info))
+    link_texts::size_record(directory_size::parse_file_directory_size(raw, info))
 }
 
 #[no_mangle]
@@ -72,10 +72,5 @@ pub extern "C" fn slc_parse_file_directory(
 ) -> SlcWritten
     ensures { λ r. ⌜ Lists (listed «file_position» «row_size» (now (bytes .entry)) (length (now (out .entry)))) (now (out .entry)) r (now (out .exit)) ⌝ }
 {
-    link_written::listed_record(directory::parse_file_directory(
-        file_position,
-        row_size,
-        bytes,
-        out,
-    ))
+    link_texts::listed_record(directory::parse_file_directory(file_position, row_size, bytes, out))
 }

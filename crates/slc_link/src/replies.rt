@@ -1,28 +1,28 @@
 // What a raw reply says.
 ghost use mathlib.Core.Path.{_≡_};
-ghost use Rattle.link_written.specs.Written.{Says, partOf};
-ghost use Rattle.status_text.specs.Texts.{textOf};
+ghost use Rattle.link_texts.specs.Written.{Says, partOf};
+ghost use Rattle.reply_status_text.specs.Texts.{textOf};
 ghost use Rattle.reply.specs.Status.{statusText};
-use link_written::SlcPart;
-use link_written::SlcWritten;
+use link_texts::SlcPart;
+use link_texts::SlcWritten;
 
 #[no_mangle]
 pub extern "C" fn slc_request_status(raw: &[u8], out: &mut [u8]) -> SlcWritten
     ensures { λ r. ⌜ Says (statusText (now (raw .entry))) (now (out .entry)) r (now (out .exit)) ⌝ }
 {
-    link_written::status_record(reply::request_status(raw, out))
+    link_texts::status_record(reply::request_status(raw, out))
 }
 
 #[no_mangle]
 pub extern "C" fn slc_error_text(status: u8, out: &mut [u8]) -> SlcWritten
     ensures { λ r. ⌜ Says (textOf status) (now (out .entry)) r (now (out .exit)) ⌝ }
 {
-    link_written::status_record(status_text::pccc_error_text(status, out))
+    link_texts::status_record(reply_status_text::pccc_error_text(status, out))
 }
 
 #[no_mangle]
 pub extern "C" fn slc_parse_datalog(raw: &[u8]) -> SlcPart
     ensures { λ r. ⌜ r ≡ partOf (now (raw .entry)) ⌝ }
 {
-    link_written::datalog_part(raw)
+    link_texts::datalog_part(raw)
 }

@@ -1,19 +1,19 @@
 // Addresses and requests.
 ghost use mathlib.Core.Path.{_≡_};
-ghost use Rattle.spelling.specs.Spelling.{addressOf};
-ghost use Rattle.frame.specs.Frame.{defaultRequestor};
-ghost use Rattle.client_requests.specs.Requests.{processorType, datalog};
+ghost use Rattle.address_spec.specs.Spelling.{addressOf};
+ghost use Rattle.request_frame.specs.Frame.{defaultRequestor};
+ghost use Rattle.request_untagged.specs.Requests.{processorType, datalog};
 ghost use Rattle.link_requests.specs.Kinds.{kindOf, writingKind};
 ghost use Rattle.link_requests.specs.Requests.{addressRecord, Asks};
-ghost use Rattle.link_written.specs.Written.{Sends};
-ghost use Rattle.asking.specs.Request.{reading};
-use frame::Requestor;
+ghost use Rattle.link_texts.specs.Written.{Sends};
+ghost use Rattle.request_spec.specs.Request.{reading};
 use link_requests::kinds;
 use link_requests::kinds::Kind;
 use link_requests::requests as records;
 use link_requests::requests::SlcAddress;
 use link_requests::requests::SlcRequest;
-use link_written::SlcWritten;
+use link_texts::SlcWritten;
+use request_frame::Requestor;
 
 #[no_mangle]
 pub extern "C" fn slc_parse_tag(tag: &[u8]) -> SlcAddress
@@ -74,12 +74,12 @@ pub extern "C" fn slc_processor_type_request(
 ) -> SlcWritten
     ensures { λ r. ⌜ Sends (processorType q sequence (now (out .entry))) (now (out .entry)) r (now (out .exit)) ⌝ }
 {
-    link_written::message_record(client_requests::processor_type_request(q, sequence, out))
+    link_texts::message_record(request_untagged::processor_type_request(q, sequence, out))
 }
 
 #[no_mangle]
 pub extern "C" fn slc_datalog_request(queue: u8, out: &mut [u8]) -> SlcWritten
     ensures { λ r. ⌜ Sends (datalog queue (now (out .entry))) (now (out .entry)) r (now (out .exit)) ⌝ }
 {
-    link_written::message_record(client_requests::datalog_request(queue, out))
+    link_texts::message_record(request_untagged::datalog_request(queue, out))
 }

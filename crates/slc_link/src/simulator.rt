@@ -1,18 +1,18 @@
 // The simulated processor, over the lent table.
 ghost use lib.ListN.{length};
 ghost use Rattle.file_type.specs.Table.{ofCode};
-ghost use Rattle.model.specs.Build.{newOf, planOf};
-ghost use Rattle.model.specs.Plain.{stateOf};
-ghost use Rattle.link_access.specs.Access.{readIn, setIn};
+ghost use Rattle.processor_spec.specs.Build.{newOf, planOf};
+ghost use Rattle.processor_spec.specs.Plain.{stateOf};
+ghost use Rattle.link_element_access.specs.Access.{readIn, setIn};
 ghost use Rattle.link_processor.specs.Answers.{SaysInNumbers, Raises};
 ghost use Rattle.link_elements.specs.Elements.{StoresInNumbers, ReadsInNumbers};
-use link_access::SlcSetting;
-use link_access::SlcSpot;
+use link_element_access::SlcSetting;
+use link_element_access::SlcSpot;
 use link_elements::SlcElement;
 use link_processor::SlcBuilt;
 use link_processor::SlcDone;
-use model::FileRecord;
-use model::Slc;
+use processor_spec::FileRecord;
+use processor_spec::Slc;
 
 // Builds a processor: 11 to 15 where it is refused.
 #[no_mangle]
@@ -26,8 +26,8 @@ pub extern "C" fn slc_new(
 ) -> SlcBuilt
     ensures { λ r. ⌜ Raises (newOf (planOf (now (files .entry)) (now (text .entry)) (now (log .entry)) count) (now (table .entry)) (now (memory .entry))) r (now (table .exit)) (now (memory .exit)) ⌝ }
 {
-    let j = build::judge(files, text, log, count, table.len(), memory.len());
-    slc_new::lay(table, files, j.records);
+    let j = processor_build::judge(files, text, log, count, table.len(), memory.len());
+    processor_new::lay(table, files, j.records);
     link_processor::finish(j, text, count, memory)
 }
 
@@ -44,9 +44,9 @@ pub extern "C" fn slc_pccc(
     ensures { λ r. ⌜ SaysInNumbers slc (now (table .entry)) (now (memory .entry)) (now (log .entry)) (now (command .entry)) (now (reply .entry)) r (now (memory .exit)) (now (reply .exit)) ⌝ }
 {
     let q = asked::asked(slc, command);
-    let s = table::survey(table, slc.files, q.number);
+    let s = processor_table::survey(table, slc.files, q.number);
     if q.directory {
-        let d = listing::directory(table, slc.files, q, s);
+        let d = processor_directory::directory(table, slc.files, q, s);
         link_processor::show(slc, s, q, d, memory, log, command, reply)
     } else {
         link_processor::respond(slc, s, q, memory, log, command, reply)
@@ -65,8 +65,8 @@ pub extern "C" fn slc_read(
 ) -> SlcElement
     ensures { λ r. ⌜ ReadsInNumbers (readIn (ofCode (at .code)) (stateOf slc (now (table .entry)) (now (memory .entry)) (now (log .entry))) at (length (now (text .entry)))) (now (text .entry)) r (now (text .exit)) ⌝ }
 {
-    let s = table::survey(table, slc.files, at.number);
-    link_access::read_element(slc, s, at, text, log, memory)
+    let s = processor_table::survey(table, slc.files, at.number);
+    link_element_access::read_element(slc, s, at, text, log, memory)
 }
 
 // Sets an element; `text` is the text of A and ST, or the name of the field. 16 or 19 to 23 where it is refused.
@@ -81,6 +81,6 @@ pub extern "C" fn slc_set(
 ) -> u8
     ensures { λ r. ⌜ StoresInNumbers (setIn (ofCode (to .code)) (stateOf slc (now (table .entry)) (now (memory .entry)) (now (log .entry))) to (now (text .entry))) (now (memory .entry)) r (now (memory .exit)) ⌝ }
 {
-    let s = table::survey(table, slc.files, to.number);
-    link_access::set_element(slc, s, to, memory, log, text)
+    let s = processor_table::survey(table, slc.files, to.number);
+    link_element_access::set_element(slc, s, to, memory, log, text)
 }

@@ -6,11 +6,11 @@ use mathlib.Core.List.{List}
 use native.Mathlib.Omega.{arith}
 use lib.ListN.{length, take, drop, length-take, length-drop, take-append-drop, drop-of-length-le}
 use lib.Seq.{drop-drop, take-all}
-use Rattle.tag_lines.specs.Pieces.{rest, held, keptBy, Feeds}
-use Rattle.tag_lines.specs.declared.Line.{Line}
-use Rattle.tag_lines.specs.declared.Fed.{Fed}
-use Rattle.tag_lines.proofs.Cuts.{rest-append, rest-held}
-use Rattle.tag_lines.proofs.Onward.{kept-keeping}
+use Rattle.tags_stream.specs.Pieces.{rest, held, keptBy, Feeds}
+use Rattle.tags_stream.specs.declared.Line.{Line}
+use Rattle.tags_stream.specs.declared.Fed.{Fed}
+use Rattle.tags_stream.proofs.Cuts.{rest-append, rest-held}
+use Rattle.tags_stream.proofs.Onward.{kept-keeping}
 
 module _ (input out : List ℕ) (at : ℕ) {line : Line} {out′ : List ℕ} {r : Fed} (f : Feeds line (take (length input - at) (drop at input)) out r out′) (h : at < length input) where
   left : length (take (length input - at) (drop at input)) ≡ length input - at

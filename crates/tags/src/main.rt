@@ -3,10 +3,10 @@ ghost use mathlib.Core.Path.{_≡_};
 ghost use mathlib.Core.Bool.{true, false};
 ghost use Prim.Native.Nat.{_≤_};
 ghost use lib.ListN.{length};
-ghost use Rattle.tag_lines.specs.Pieces.{rest, held, keptBy};
+ghost use Rattle.tags_stream.specs.Pieces.{rest, held, keptBy};
 use libc::STDIN_FILENO;
 use libc::STDOUT_FILENO;
-use tag_lines::Line;
+use tags_stream::Line;
 
 // The line that goes on, and whether to read on.
 struct Went {
@@ -32,7 +32,7 @@ fn answer_all(input: &[u8], line: Line, out: &mut [u8]) -> Went
     let mut at = 0;
     let mut kept = line;
     while at < input.len() {
-        let fed = tag_lines::feed(kept, &input[at..], out);
+        let fed = tags_stream::feed(kept, &input[at..], out);
         let used = fed.used;
         if !io::write_all(STDOUT_FILENO, &out[..used]) {
             return stopped();
@@ -85,6 +85,6 @@ fn main() {
     let mut input = io::large_buffer();
     let mut out = [0u8; 262144];
     let line = answer_input(&mut input, &mut out);
-    let used = tag_lines::finish(line, &mut out);
+    let used = tags_stream::finish(line, &mut out);
     io::write_all(STDOUT_FILENO, &out[..used]);
 }

@@ -1,10 +1,10 @@
 // Mask word and data of a write, laid in lent memory.
 ghost use mathlib.Core.Path.{_≡_};
 ghost use Rattle.base.specs.Masked.{bitMask};
-ghost use Rattle.frame.specs.Frame.{Lays};
-ghost use Rattle.asking.specs.Request.{bitData, textData, supplied};
-use asking::Value;
-use spelling::Address;
+ghost use Rattle.request_frame.specs.Frame.{Lays};
+ghost use Rattle.request_spec.specs.Request.{bitData, textData, supplied};
+use address_spec::Address;
+use request_spec::Value;
 
 fn mask(n: u16) -> u16
     ensures { λ r. ⌜ r ≡ bitMask n ⌝ }
@@ -31,10 +31,10 @@ fn put_text(out: &mut [u8], at: usize, ascii: bool, text: &[u8]) -> usize
 {
     let a = base::put_number(out, at, 2, 0xFFFF);
     if ascii {
-        let two = swap::encode_pccc_ascii(text);
+        let two = element_text::encode_pccc_ascii(text);
         return base::put_all(out, a, &two);
     }
-    let line = swap::encode_pccc_string(text);
+    let line = element_text::encode_pccc_string(text);
     base::put_all(out, a, &line)
 }
 
@@ -44,7 +44,7 @@ pub fn put(out: &mut [u8], at: usize, v: Value, bytes: &[u8], x: Address) -> usi
     let sub = x.sub_element;
     match v {
         Value::Raw => base::put_all(out, at, bytes),
-        Value::Bool(b) => put_bit(out, at, asking::or_zero(sub), b),
-        Value::Text => put_text(out, at, write_asking::is_ascii(x), bytes),
+        Value::Bool(b) => put_bit(out, at, request_spec::or_zero(sub), b),
+        Value::Text => put_text(out, at, request_write::is_ascii(x), bytes),
     }
 }

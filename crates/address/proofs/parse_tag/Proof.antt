@@ -1,4 +1,4 @@
-use Rattle.spelling.proofs.Forms.{tag-long, tag-high, tag-no, tag-is}
+use Rattle.address_spec.proofs.Forms.{tag-long, tag-high, tag-no, tag-is}
 use borrow.Author.Needs.{needs}
 use Rattle.address.proofs.parse_tag.Statement.{statement}
 use Rattle.address.proofs.parse_tag.Tie as tie

@@ -1,5 +1,5 @@
 use mathlib.Core.Path.{refl}
-use Rattle.model.specs.Build.{noSlc}
+use Rattle.processor_spec.specs.Build.{noSlc}
 use Rattle.build_end.proofs.no_slc.Statement.{statement}
 use Rattle.build_end.proofs.no_slc.Tie as tie
 

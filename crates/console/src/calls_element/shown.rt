@@ -1,7 +1,7 @@
 // An element as it is shown: `i:N`, `f:BITS`, `s:BYTES`, `t:word1:word2:bits`.
 use crate::told::Told;
+use element_spec::Element;
 use file_type::FileType;
-use values::Element;
 
 // The value of an element, or its refusal. Its text stands in `text`.
 pub fn element(t: FileType, e: Element, text: &[u8], memory: &mut [u8]) -> Told {
@@ -48,7 +48,7 @@ fn words_and_bits(t: FileType, a: i16, b: i16, w: u16, memory: &mut [u8]) -> usi
 
 // A digit for each named bit, from bit 15 down.
 fn named_bits(t: FileType, w: u16, memory: &mut [u8], at: usize) -> usize {
-    let n = fields::bits(t);
+    let n = file_type_fields::bits(t);
     let mut rest = w;
     let mut place = at;
     let mut i = 0;

@@ -1,12 +1,12 @@
 // The calls of the processor that stands in `store`.
 use crate::protocol::Args;
-use element::Setting;
-use element::Spot;
+use element_spec::Element;
+use element_spec::Stored;
 use file_type::FileType;
 use file_type::Known;
-use model::Answered;
-use values::Element;
-use values::Stored;
+use processor_element_core::Setting;
+use processor_element_core::Spot;
+use processor_spec::Answered;
 
 // What the processor answers, which stands in `store` as the command leaves it.
 pub fn obeyed(command: &[u8], reply: &mut [u8], store: &mut [u8]) -> Answered {
@@ -24,7 +24,7 @@ pub fn element(w: Spot, text: &mut [u8], store: &[u8]) -> Element {
     let rows = crate::sim_store::rows(store);
     let log = crate::sim_store::log(store);
     let m = text::within(65535, store);
-    bridges::read_on(slc, rows, w, text, &log, &store[..m])
+    processor_by_value::read_on(slc, rows, w, text, &log, &store[..m])
 }
 
 pub fn stored(w: Setting, text: &[u8], store: &mut [u8]) -> Stored {
@@ -32,7 +32,7 @@ pub fn stored(w: Setting, text: &[u8], store: &mut [u8]) -> Stored {
     let rows = crate::sim_store::rows(store);
     let log = crate::sim_store::log(store);
     let m = text::within(65535, store);
-    bridges::set_on(slc, rows, w, &mut store[..m], &log, text)
+    processor_by_value::set_on(slc, rows, w, &mut store[..m], &log, text)
 }
 
 // Of a code that is none, a type that no file has: 19 comes after 16.

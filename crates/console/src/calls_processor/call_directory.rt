@@ -2,10 +2,10 @@
 ghost use Prim.Native.Nat.{_≤_};
 use crate::calls_processor::asked;
 use crate::told::Told;
-use client_requests::Message;
-use frame::Requestor;
-use model::Answered;
-use sys0::Sys0Info;
+use directory_sys0::Sys0Info;
+use processor_spec::Answered;
+use request_frame::Requestor;
+use request_untagged::Message;
 
 pub fn answer(memory: &mut [u8], store: &mut [u8]) -> Told {
     if crate::sim_store::files(store) == 0 {
@@ -19,7 +19,7 @@ pub fn answer(memory: &mut [u8], store: &mut [u8]) -> Told {
 fn layout(store: &[u8]) -> Sys0Info {
     let slc = crate::sim_store::slc(store);
     let plc_type = slc.type_text;
-    sys0::sys0_info(&plc_type[..text::within(slc.type_len, &plc_type)])
+    directory_sys0::sys0_info(&plc_type[..text::within(slc.type_len, &plc_type)])
 }
 
 fn written(m: Message) -> usize {
@@ -43,7 +43,7 @@ fn replied(message: &[u8], m: Message, reply: &mut [u8], store: &mut [u8]) -> us
 // The size element, less what the processor adds.
 fn size(info: Sys0Info, store: &mut [u8]) -> u16 {
     let mut message = [0u8; 32];
-    let m = client_requests::file_directory_size_request(
+    let m = request_untagged::file_directory_size_request(
         info,
         Requestor::default(),
         0,
@@ -79,7 +79,7 @@ fn part(
     store: &mut [u8],
 ) -> usize {
     let mut message = [0u8; 32];
-    let m = client_requests::file_directory_read_request(
+    let m = request_untagged::file_directory_read_request(
         info.file_type,
         at,
         (size % 256) as u8,

@@ -1,5 +1,5 @@
 // `dump`: n number:CODE:BYTES .. log k ENTRY ..
-use model::FileRecord;
+use processor_spec::FileRecord;
 
 pub fn shown(n: u16, memory: &mut [u8], store: &[u8]) -> usize {
     let a = crate::told::put_number(memory, 0, b' ', n as u64);

@@ -1,6 +1,6 @@
 // `fill NUMBER BYTES`: sets all bytes of a file, a test aid
 use crate::told::Told;
-use model::FileRecord;
+use processor_spec::FileRecord;
 
 // 19 where no file has this number and as many bytes.
 pub fn filled(n: u16, number: u64, bytes: &[u8], store: &mut [u8]) -> Told {

@@ -1,6 +1,6 @@
 // `spoil KIND ..`: damages the processor's plain data, a test aid for question 16
 use crate::protocol::Args;
-use model::FileRecord;
+use processor_spec::FileRecord;
 
 // The kinds `files N`, `typelen N`, `logat N`, `logleft N`; `text I CODE`, `log I CODE`; `record I NUMBER CODE START LENGTH`, by their places in the
 // table of `protocol`.

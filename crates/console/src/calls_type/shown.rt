@@ -22,20 +22,20 @@ pub fn simulated(t: FileType, memory: &mut [u8]) -> Told {
         return Told::Nothing;
     }
     let a = file_type(t, memory);
-    if fields::bits(t) == 0 {
+    if file_type_fields::bits(t) == 0 {
         return Told::Text(a);
     }
-    let b = name(fields::word_name(t, 0), memory, a);
-    let c = name(fields::word_name(t, 1), memory, b);
+    let b = name(file_type_fields::word_name(t, 0), memory, a);
+    let c = name(file_type_fields::word_name(t, 1), memory, b);
     Told::Text(bits(t, memory, c))
 }
 
 fn bits(t: FileType, memory: &mut [u8], at: usize) -> usize {
-    let n = fields::bits(t);
+    let n = file_type_fields::bits(t);
     let mut place = at;
     let mut i = 0;
     while i < n {
-        place = name(fields::bit_name(t, i), memory, place);
+        place = name(file_type_fields::bit_name(t, i), memory, place);
         i += 1;
     }
     place

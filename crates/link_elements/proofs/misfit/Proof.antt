@@ -1,4 +1,4 @@
-use Rattle.values.specs.declared.kind.Kind.the-variants as kind
+use Rattle.element_spec.specs.declared.kind.Kind.the-variants as kind
 use Rattle.link_elements.proofs.Numbers.{is-misfit}
 use borrow.Author.Needs.{needs}
 use Rattle.link_elements.proofs.misfit.Statement.{statement}

@@ -2,8 +2,8 @@
 use contract.Running.{givenOf, tables, tablesOf}
 use denote.Triple.Spec.{tripleOf}
 use denote.Triple.Table.{entered, cited}
-use Rattle.model.specs.Pccc.{pcccOf}
-use Rattle.shapes.proofs.Bridging.{Chooses, bridge-meets}
+use Rattle.processor_spec.specs.Pccc.{pcccOf}
+use Rattle.processor_walks.proofs.Bridging.{Chooses, bridge-meets}
 use Rattle.processor.proofs.Answer.{done}
 use Rattle.processor.proofs.pccc.Symbol as call-def
 use Rattle.processor.proofs.pccc.Symbol.{name as #processor·pccc}

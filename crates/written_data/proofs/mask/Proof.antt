@@ -1,4 +1,4 @@
-use Rattle.asking.proofs.Supplied.{no-mask}
+use Rattle.request_spec.proofs.Supplied.{no-mask}
 use borrow.Author.Needs.{needs}
 use Rattle.written_data.proofs.mask.Statement.{statement}
 use Rattle.written_data.proofs.mask.Tie as tie

@@ -1,5 +1,5 @@
-use Rattle.frame.proofs.Laid.{lays}
-use Rattle.asking.proofs.Supplied.{bool-laid, raw-laid, text-laid}
+use Rattle.request_frame.proofs.Laid.{lays}
+use Rattle.request_spec.proofs.Supplied.{bool-laid, raw-laid, text-laid}
 use borrow.Author.Needs.{needs}
 use Rattle.written_data.proofs.put.Statement.{statement}
 use Rattle.written_data.proofs.put.Tie as tie

@@ -1,5 +1,5 @@
-use Rattle.frame.proofs.Laid.{lays}
-use Rattle.asking.proofs.Supplied.{bit-clear, bit-set}
+use Rattle.request_frame.proofs.Laid.{lays}
+use Rattle.request_spec.proofs.Supplied.{bit-clear, bit-set}
 use borrow.Author.Needs.{needs}
 use Rattle.written_data.proofs.put_bit.Statement.{statement}
 use Rattle.written_data.proofs.put_bit.Tie as tie

@@ -1,5 +1,5 @@
-use Rattle.frame.proofs.Laid.{lays}
-use Rattle.asking.proofs.Supplied.{ascii-laid, string-laid}
+use Rattle.request_frame.proofs.Laid.{lays}
+use Rattle.request_spec.proofs.Supplied.{ascii-laid, string-laid}
 use borrow.Author.Needs.{needs}
 use Rattle.written_data.proofs.put_text.Statement.{statement}
 use Rattle.written_data.proofs.put_text.Tie as tie

@@ -1,4 +1,4 @@
-use Rattle.link_written.specs.Written.{sizeRecord}
+use Rattle.link_texts.specs.Written.{sizeRecord}
 use Rattle.link_types.proofs.Records.{through}
 use borrow.Author.Needs.{needs}
 use Rattle.slc_link.proofs.directories.slc_parse_file_directory_size.Statement.{statement}

@@ -1,19 +1,19 @@
--- `slc_new` is one more call of the shape of `slc_new::new` (crate `slc_new`, `Building.antt`), with the answer in numbers.
+-- `slc_new` is one more call of the shape of `processor_new::new` (crate `slc_new`, `Building.antt`), with the answer in numbers.
 use mathlib.Core.Path.{_≡_, refl, ap, _∙_}
 use contract.Running.{givenOf, tables, tablesOf}
 use denote.Triple.Spec.{tripleOf}
 use denote.Triple.Table.{entered, cited}
-use Rattle.model.specs.Build.{Raised, newOf, planOf, raised}
-use Rattle.build_plan.specs.Plans.{laidOf, Ended, finishOf}
-use Rattle.build_plan.proofs.Raising.{new-is}
-use Rattle.build.proofs.judge.Symbol as judge-def
-use Rattle.build.proofs.judge.Symbol.{name as #build·judge}
-use Rattle.build.proofs.judge.Met as judge-thm
-use Rattle.shapes.proofs.Laying.{Lays}
-use Rattle.slc_new.proofs.Building.{Said, Owes, Fits, Judges, Finishes, new-meets}
-use Rattle.slc_new.proofs.lay.Symbol as lay-def
-use Rattle.slc_new.proofs.lay.Symbol.{name as #slc-new·lay}
-use Rattle.slc_new.proofs.lay.Met as lay-thm
+use Rattle.processor_spec.specs.Build.{Raised, newOf, planOf, raised}
+use Rattle.processor_build_spec.specs.Plans.{laidOf, Ended, finishOf}
+use Rattle.processor_build_spec.proofs.Raising.{new-is}
+use Rattle.processor_build.proofs.judge.Symbol as judge-def
+use Rattle.processor_build.proofs.judge.Symbol.{name as #processor-build·judge}
+use Rattle.processor_build.proofs.judge.Met as judge-thm
+use Rattle.processor_walks.proofs.Laying.{Lays}
+use Rattle.processor_new.proofs.Building.{Said, Owes, Fits, Judges, Finishes, new-meets}
+use Rattle.processor_new.proofs.lay.Symbol as lay-def
+use Rattle.processor_new.proofs.lay.Symbol.{name as #processor-new·lay}
+use Rattle.processor_new.proofs.lay.Met as lay-thm
 use Rattle.link_processor.specs.Answers.{builtOf, Finished, Raises}
 use Rattle.link_processor.proofs.finish.Symbol as finish-def
 use Rattle.link_processor.proofs.finish.Symbol.{name as #link-processor·finish}
@@ -42,7 +42,7 @@ unfolding code.routine tablesOf
 slc-new-spec 𝓤 H 𝓜 𝓖 𝓡 =
     entered 𝓤 H (tripleOf 𝓤 H (𝓖 .A) self.signature (self.spec 𝓤 H (𝓖 .A) (𝓜 .mem) (𝓡 .run)))
     (tables 𝓤 H 𝓜 𝓡 code.env .C) (tables 𝓤 H 𝓜 𝓡 code.env .Λ) #slc-link·slc-new code.function (code.unfolded 𝓤 H 𝓜 𝓡)
-    (new-meets built said owe right #build·judge #slc-new·lay #link-processor·finish 𝓤 H (𝓖 .A) (givenOf 𝓤 H 𝓜 𝓖) (𝓜 .mem) (𝓡 .run) (tablesOf 𝓤 H 𝓜 (tables 𝓤 H 𝓜 𝓡 code.env))
-    (cited 𝓤 H (Judges 𝓤 H (𝓖 .A) (𝓜 .mem) (𝓡 .run)) 𝓜 𝓡 code.env #build·judge judge-def.routine code.calls-build·judge (judge-thm.met 𝓤 H 𝓜 𝓖 𝓡))
-    (cited 𝓤 H (Lays 𝓤 H (𝓖 .A) laidOf) 𝓜 𝓡 code.env #slc-new·lay lay-def.routine code.calls-slc-new·lay (lay-thm.met 𝓤 H 𝓜 𝓖 𝓡))
+    (new-meets built said owe right #processor-build·judge #processor-new·lay #link-processor·finish 𝓤 H (𝓖 .A) (givenOf 𝓤 H 𝓜 𝓖) (𝓜 .mem) (𝓡 .run) (tablesOf 𝓤 H 𝓜 (tables 𝓤 H 𝓜 𝓡 code.env))
+    (cited 𝓤 H (Judges 𝓤 H (𝓖 .A) (𝓜 .mem) (𝓡 .run)) 𝓜 𝓡 code.env #processor-build·judge judge-def.routine code.calls-processor-build·judge (judge-thm.met 𝓤 H 𝓜 𝓖 𝓡))
+    (cited 𝓤 H (Lays 𝓤 H (𝓖 .A) laidOf) 𝓜 𝓡 code.env #processor-new·lay lay-def.routine code.calls-processor-new·lay (lay-thm.met 𝓤 H 𝓜 𝓖 𝓡))
     (cited 𝓤 H (Finishes built 𝓤 H (𝓖 .A) said) 𝓜 𝓡 code.env #link-processor·finish finish-def.routine code.calls-link-processor·finish (finish-thm.met 𝓤 H 𝓜 𝓖 𝓡)))

@@ -1,23 +1,23 @@
--- `slc_read` is one more call of the shape of `access::read` (crate `access`, `Accessing.antt`), by a type code and with the answer in numbers.
+-- `slc_read` is one more call of the shape of `processor_element::read` (crate `access`, `Accessing.antt`), by a type code and with the answer in numbers.
 use mathlib.Core.Path.{subst}
 use lib.ListN.{length}
-use Rattle.values.specs.Decode.{Says as Tells}
-use Rattle.link_access.specs.Access.{readIn, readInBy}
+use Rattle.element_spec.specs.Decode.{Says as Tells}
+use Rattle.link_element_access.specs.Access.{readIn, readInBy}
 use Rattle.link_elements.specs.Elements.{ReadsInNumbers}
-use Rattle.link_access.proofs.Accesses.{read-in-is}
+use Rattle.link_element_access.proofs.Accesses.{read-in-is}
 use contract.Running.{givenOf, tables, tablesOf}
 use denote.Triple.Spec.{tripleOf}
 use denote.Triple.Table.{entered, cited}
 use Rattle.file_type.specs.Table.{ofCode}
-use Rattle.model.specs.Plain.{stateOf}
-use Rattle.table.proofs.survey.Symbol as survey-def
-use Rattle.table.proofs.survey.Symbol.{name as #table·survey}
-use Rattle.table.proofs.survey.Met as survey-thm
-use Rattle.shapes.proofs.Asking.{Surveys}
-use Rattle.access.proofs.Accessing.{Said, Says, Fits, Cores, access-meets}
-use Rattle.link_access.proofs.read_element.Symbol as core-def
-use Rattle.link_access.proofs.read_element.Symbol.{name as #link-access·read-element}
-use Rattle.link_access.proofs.read_element.Met as core-thm
+use Rattle.processor_spec.specs.Plain.{stateOf}
+use Rattle.processor_table.proofs.survey.Symbol as survey-def
+use Rattle.processor_table.proofs.survey.Symbol.{name as #processor-table·survey}
+use Rattle.processor_table.proofs.survey.Met as survey-thm
+use Rattle.processor_walks.proofs.Asking.{Surveys}
+use Rattle.processor_element.proofs.Accessing.{Said, Says, Fits, Cores, access-meets}
+use Rattle.link_element_access.proofs.read_element.Symbol as core-def
+use Rattle.link_element_access.proofs.read_element.Symbol.{name as #link-element-access·read-element}
+use Rattle.link_element_access.proofs.read_element.Met as core-thm
 use Rattle.slc_link.proofs.Answering.{spot, element}
 use Rattle.slc_link.proofs.simulator.slc_read.Key.{name as #slc-link·slc-read}
 use Rattle.slc_link.proofs.simulator.slc_read as self
@@ -39,6 +39,6 @@ unfolding code.routine tablesOf
 slc-read-spec 𝓤 H 𝓜 𝓖 𝓡 =
     entered 𝓤 H (tripleOf 𝓤 H (𝓖 .A) self.signature (self.spec 𝓤 H (𝓖 .A) (𝓜 .mem) (𝓡 .run)))
     (tables 𝓤 H 𝓜 𝓡 code.env .C) (tables 𝓤 H 𝓜 𝓡 code.env .Λ) #slc-link·slc-read code.function (code.unfolded 𝓤 H 𝓜 𝓡)
-    (access-meets spot element said owe right #table·survey #link-access·read-element 𝓤 H (𝓖 .A) (givenOf 𝓤 H 𝓜 𝓖) (tablesOf 𝓤 H 𝓜 (tables 𝓤 H 𝓜 𝓡 code.env))
-    (cited 𝓤 H (Surveys 𝓤 H (𝓖 .A)) 𝓜 𝓡 code.env #table·survey survey-def.routine code.calls-table·survey (survey-thm.met 𝓤 H 𝓜 𝓖 𝓡))
-    (cited 𝓤 H (Cores spot element 𝓤 H (𝓖 .A) said) 𝓜 𝓡 code.env #link-access·read-element core-def.routine code.calls-link-access·read-element (core-thm.met 𝓤 H 𝓜 𝓖 𝓡)))
+    (access-meets spot element said owe right #processor-table·survey #link-element-access·read-element 𝓤 H (𝓖 .A) (givenOf 𝓤 H 𝓜 𝓖) (tablesOf 𝓤 H 𝓜 (tables 𝓤 H 𝓜 𝓡 code.env))
+    (cited 𝓤 H (Surveys 𝓤 H (𝓖 .A)) 𝓜 𝓡 code.env #processor-table·survey survey-def.routine code.calls-processor-table·survey (survey-thm.met 𝓤 H 𝓜 𝓖 𝓡))
+    (cited 𝓤 H (Cores spot element 𝓤 H (𝓖 .A) said) 𝓜 𝓡 code.env #link-element-access·read-element core-def.routine code.calls-link-element-access·read-element (core-thm.met 𝓤 H 𝓜 𝓖 𝓡)))

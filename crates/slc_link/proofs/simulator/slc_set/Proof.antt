@@ -1,22 +1,22 @@
--- `slc_set` is one more call of the shape of `access::set` (crate `access`, `Accessing.antt`), by a type code and with the answer in a number.
+-- `slc_set` is one more call of the shape of `processor_element::set` (crate `access`, `Accessing.antt`), by a type code and with the answer in a number.
 use mathlib.Core.Path.{subst}
 use Rattle.base.specs.Outcome.{Outcome}
-use Rattle.link_access.specs.Access.{setIn, setInBy}
+use Rattle.link_element_access.specs.Access.{setIn, setInBy}
 use Rattle.link_elements.specs.Elements.{StoresInNumbers}
-use Rattle.link_access.proofs.Accesses.{set-in-is}
+use Rattle.link_element_access.proofs.Accesses.{set-in-is}
 use contract.Running.{givenOf, tables, tablesOf}
 use denote.Triple.Spec.{tripleOf}
 use denote.Triple.Table.{entered, cited}
 use Rattle.file_type.specs.Table.{ofCode}
-use Rattle.model.specs.Plain.{stateOf}
-use Rattle.table.proofs.survey.Symbol as survey-def
-use Rattle.table.proofs.survey.Symbol.{name as #table·survey}
-use Rattle.table.proofs.survey.Met as survey-thm
-use Rattle.shapes.proofs.Asking.{Surveys}
-use Rattle.access.proofs.Accessing.{Said, Says, Fits, Cores, access-meets}
-use Rattle.link_access.proofs.set_element.Symbol as core-def
-use Rattle.link_access.proofs.set_element.Symbol.{name as #link-access·set-element}
-use Rattle.link_access.proofs.set_element.Met as core-thm
+use Rattle.processor_spec.specs.Plain.{stateOf}
+use Rattle.processor_table.proofs.survey.Symbol as survey-def
+use Rattle.processor_table.proofs.survey.Symbol.{name as #processor-table·survey}
+use Rattle.processor_table.proofs.survey.Met as survey-thm
+use Rattle.processor_walks.proofs.Asking.{Surveys}
+use Rattle.processor_element.proofs.Accessing.{Said, Says, Fits, Cores, access-meets}
+use Rattle.link_element_access.proofs.set_element.Symbol as core-def
+use Rattle.link_element_access.proofs.set_element.Symbol.{name as #link-element-access·set-element}
+use Rattle.link_element_access.proofs.set_element.Met as core-thm
 use Rattle.slc_link.proofs.Answering.{setting, number}
 use Rattle.slc_link.proofs.simulator.slc_set.Key.{name as #slc-link·slc-set}
 use Rattle.slc_link.proofs.simulator.slc_set as self
@@ -38,6 +38,6 @@ unfolding code.routine tablesOf
 slc-set-spec 𝓤 H 𝓜 𝓖 𝓡 =
     entered 𝓤 H (tripleOf 𝓤 H (𝓖 .A) self.signature (self.spec 𝓤 H (𝓖 .A) (𝓜 .mem) (𝓡 .run)))
     (tables 𝓤 H 𝓜 𝓡 code.env .C) (tables 𝓤 H 𝓜 𝓡 code.env .Λ) #slc-link·slc-set code.function (code.unfolded 𝓤 H 𝓜 𝓡)
-    (access-meets setting number said owe right #table·survey #link-access·set-element 𝓤 H (𝓖 .A) (givenOf 𝓤 H 𝓜 𝓖) (tablesOf 𝓤 H 𝓜 (tables 𝓤 H 𝓜 𝓡 code.env))
-    (cited 𝓤 H (Surveys 𝓤 H (𝓖 .A)) 𝓜 𝓡 code.env #table·survey survey-def.routine code.calls-table·survey (survey-thm.met 𝓤 H 𝓜 𝓖 𝓡))
-    (cited 𝓤 H (Cores setting number 𝓤 H (𝓖 .A) said) 𝓜 𝓡 code.env #link-access·set-element core-def.routine code.calls-link-access·set-element (core-thm.met 𝓤 H 𝓜 𝓖 𝓡)))
+    (access-meets setting number said owe right #processor-table·survey #link-element-access·set-element 𝓤 H (𝓖 .A) (givenOf 𝓤 H 𝓜 𝓖) (tablesOf 𝓤 H 𝓜 (tables 𝓤 H 𝓜 𝓡 code.env))
+    (cited 𝓤 H (Surveys 𝓤 H (𝓖 .A)) 𝓜 𝓡 code.env #processor-table·survey survey-def.routine code.calls-processor-table·survey (survey-thm.met 𝓤 H 𝓜 𝓖 𝓡))
+    (cited 𝓤 H (Cores setting number 𝓤 H (𝓖 .A) said) 𝓜 𝓡 code.env #link-element-access·set-element core-def.routine code.calls-link-element-access·set-element (core-thm.met 𝓤 H 𝓜 𝓖 𝓡)))

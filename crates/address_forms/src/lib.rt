@@ -1,0 +1,258 @@
+// The forms of an address, each read from the whole tag.
+ghost use mathlib.Core.Path.{_≡_};
+ghost use Rattle.address_spec.specs.Answers.{foundOf};
+ghost use Rattle.address_spec.specs.Spelling.{separates, ct, lfbn, io, sta, keptOf, status, bits, lastForms, formOf};
+use address_spec::Address;
+use address_spec::Found;
+use address_spec::Maybe;
+use address_spec::Named;
+use address_spec::Slot;
+use address_spec::Tail;
+use address_spec::Typed;
+use file_type::FileType;
+use parser::Cur;
+use parser::Number;
+use parser::Place;
+use parser::Word;
+
+// C and T: file, `:`, element, separator, name.
+fn parse_ct(tag: &[u8]) -> Found
+    ensures { λ r. ⌜ r ≡ foundOf (ct separates (now (tag .entry))) ⌝ }
+{
+    let start = Cur { i: 0 };
+    let Typed::Is(file_type, c1) = address_phrases::ct_letter(start, tag) else {
+        return Found::No;
+    };
+    let Word::Got(file, c2) = address_phrases::file_then(c1, tag, b':') else {
+        return Found::No;
+    };
+    let Named::Got(element, sub) = address_timers::element_name(c2, tag) else {
+        return Found::No;
+    };
+    if 255 < element {
+        return Found::No;
+    }
+    Found::Is(Address {
+        file_type: file_type,
+        file_number: file,
+        element_number: element as u16,
+        pos_number: Maybe::Missing,
+        sub_element: Maybe::Is(sub),
+        bit: true,
+        element_count: 1,
+        kept: tag.len(),
+    })
+}
+
+// L, F, B and N: file, `:`, element, optional bit, count.
+fn parse_lfbn(tag: &[u8]) -> Found
+    ensures { λ r. ⌜ r ≡ foundOf (lfbn (now (tag .entry))) ⌝ }
+{
+    let start = Cur { i: 0 };
+    let Typed::Is(file_type, c1) = address_phrases::lfbn_letter(start, tag) else {
+        return Found::No;
+    };
+    let Word::Got(file, c2) = address_phrases::file_then(c1, tag, b':') else {
+        return Found::No;
+    };
+    let Word::Got(element, c3) = c2.digits_in(tag, 3, 0, 255) else {
+        return Found::No;
+    };
+    let Tail::Got(sub, count, c4) = address_phrases::bit_count(c3, tag) else {
+        return Found::No;
+    };
+    address_phrases::found(
+        c4,
+        tag,
+        Address {
+            file_type: file_type,
+            file_number: file,
+            element_number: element,
+            pos_number: Maybe::Missing,
+            sub_element: sub,
+            bit: address_phrases::present(sub),
+            element_count: count,
+            kept: parser::find(tag, b'{'),
+        },
+    )
+}
+
+// I and O: optional number, `:`, element, optional position, optional bit, count.
+fn parse_io(tag: &[u8]) -> Found
+    ensures { λ r. ⌜ r ≡ foundOf (io (now (tag .entry))) ⌝ }
+{
+    let start = Cur { i: 0 };
+    let Slot::Is(file_type, file, c1) = address_phrases::slot(start, tag) else {
+        return Found::No;
+    };
+    let Word::Got(element, c2) = c1.digits_in(tag, 3, 0, 255) else {
+        return Found::No;
+    };
+    let Word::Got(pos, c3) = address_phrases::optional_position(c2, tag) else {
+        return Found::No;
+    };
+    let Tail::Got(sub, count, c4) = address_phrases::bit_count(c3, tag) else {
+        return Found::No;
+    };
+    address_phrases::found(
+        c4,
+        tag,
+        Address {
+            file_type: file_type,
+            file_number: file,
+            element_number: element,
+            pos_number: Maybe::Is(pos),
+            sub_element: Maybe::Is(address_phrases::or_zero(sub)),
+            bit: address_phrases::present(sub),
+            element_count: count,
+            kept: parser::find(tag, b'{'),
+        },
+    )
+}
+
+// ST, or A: file, `:`, element, count.
+fn parse_st_a(tag: &[u8], st: bool) -> Found
+    ensures { λ r. ⌜ r ≡ foundOf (sta st (now (tag .entry))) ⌝ }
+{
+    let start = Cur { i: 0 };
+    let Typed::Is(file_type, c1) = address_phrases::st_or_a(start, tag, st) else {
+        return Found::No;
+    };
+    let Word::Got(file, c2) = address_phrases::file_then(c1, tag, b':') else {
+        return Found::No;
+    };
+    let Word::Got(element, c3) = c2.digits_in(tag, 4, 0, 255) else {
+        return Found::No;
+    };
+    let Number::Got(count, c4) = c3.count(tag, st) else {
+        return Found::No;
+    };
+    address_phrases::found(
+        c4,
+        tag,
+        Address {
+            file_type: file_type,
+            file_number: file,
+            element_number: element,
+            pos_number: Maybe::Missing,
+            sub_element: Maybe::Missing,
+            bit: false,
+            element_count: count,
+            kept: parser::find(tag, b'{'),
+        },
+    )
+}
+
+// The length of the kept text of an S address.
+fn kept_of(sub: Maybe, tag: &[u8]) -> usize
+    ensures { λ r. ⌜ r ≡ keptOf sub (now (tag .entry)) ⌝ }
+{
+    match sub {
+        Maybe::Missing => parser::find(tag, b'{'),
+        Maybe::Is(_) => tag.len(),
+    }
+}
+
+// S: `:`, element, optional bit, count.
+fn parse_s(tag: &[u8]) -> Found
+    ensures { λ r. ⌜ r ≡ foundOf (status (now (tag .entry))) ⌝ }
+{
+    let start = Cur { i: 0 };
+    let Place::At(c1) = start.letter(tag, b'S') else {
+        return Found::No;
+    };
+    let Place::At(c2) = c1.eat(tag, b':') else {
+        return Found::No;
+    };
+    let Word::Got(element, c3) = c2.digits_in(tag, 3, 0, 255) else {
+        return Found::No;
+    };
+    let Tail::Got(sub, count, c4) = address_phrases::bit_count(c3, tag) else {
+        return Found::No;
+    };
+    address_phrases::found(
+        c4,
+        tag,
+        Address {
+            file_type: FileType::S,
+            file_number: 2,
+            element_number: element,
+            pos_number: Maybe::Missing,
+            sub_element: sub,
+            bit: address_phrases::present(sub),
+            element_count: count,
+            kept: kept_of(sub, tag),
+        },
+    )
+}
+
+// B: file, `/`, a bit counted across the whole file, count.
+fn parse_b(tag: &[u8]) -> Found
+    ensures { λ r. ⌜ r ≡ foundOf (bits (now (tag .entry))) ⌝ }
+{
+    let start = Cur { i: 0 };
+    let Place::At(c1) = start.letter(tag, b'B') else {
+        return Found::No;
+    };
+    let Word::Got(file, c2) = address_phrases::file_then(c1, tag, b'/') else {
+        return Found::No;
+    };
+    let Word::Got(bit, c3) = c2.digits_in(tag, 4, 0, 4095) else {
+        return Found::No;
+    };
+    let Number::Got(count, c4) = c3.count(tag, false) else {
+        return Found::No;
+    };
+    address_phrases::found(
+        c4,
+        tag,
+        Address {
+            file_type: FileType::B,
+            file_number: file,
+            element_number: bit / 16,
+            pos_number: Maybe::Missing,
+            sub_element: Maybe::Is(bit % 16),
+            bit: true,
+            element_count: count,
+            kept: parser::find(tag, b'{'),
+        },
+    )
+}
+
+// ST, A, S and B in turn.
+fn parse_last(tag: &[u8]) -> Found
+    ensures { λ r. ⌜ r ≡ foundOf (lastForms (now (tag .entry))) ⌝ }
+{
+    let r1 = parse_st_a(tag, true);
+    if let Found::Is(_) = r1 {
+        return r1;
+    }
+    let r2 = parse_st_a(tag, false);
+    if let Found::Is(_) = r2 {
+        return r2;
+    }
+    let r3 = parse_s(tag);
+    if let Found::Is(_) = r3 {
+        return r3;
+    }
+    parse_b(tag)
+}
+
+// The forms in turn.
+pub fn parse_form(tag: &[u8]) -> Found
+    ensures { λ r. ⌜ r ≡ foundOf (formOf separates (now (tag .entry))) ⌝ }
+{
+    let r1 = parse_ct(tag);
+    if let Found::Is(_) = r1 {
+        return r1;
+    }
+    let r2 = parse_lfbn(tag);
+    if let Found::Is(_) = r2 {
+        return r2;
+    }
+    let r3 = parse_io(tag);
+    if let Found::Is(_) = r3 {
+        return r3;
+    }
+    parse_last(tag)
+}

@@ -1,0 +1,18 @@
+use Rattle.address_spec.proofs.Reading.{forms}
+use borrow.Author.Needs.{needs}
+use Rattle.address_phrases.proofs.io_letter.Statement.{statement}
+use Rattle.address_phrases.proofs.io_letter.Tie as tie
+
+pub io-letter-spec : {M : Type 1} → statement M
+io-letter-spec =
+    tie.close
+    (tie.spec
+    (λ c κs. search needs)
+    (λ c. search needs)
+    (λ c. search (forms, needs))
+    (λ c. search needs)
+    (λ c κs. search needs)
+    (λ c. search needs)
+    (λ c. search (forms, needs))
+    (λ c. search needs)
+    (λ c. search (forms, needs)))

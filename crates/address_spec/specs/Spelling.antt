@@ -1,0 +1,194 @@
+-- The address spelling (document 01, "Address spelling"), form by form, and questions 1 and 2.
+use Prim.Native.Nat.{ℕ, zero, suc, min, _/_, _%_}
+use Prim.Native.Char.{Char, code}
+use Prim.Native.String.{String}
+use mathlib.Core.List.{List, [], _∷_}
+use mathlib.Core.Option.{Option, none, some}
+use mathlib.Core.Bool.{Bool, true, false, _&&_, not, cond}
+use lib.Dec.{leb, ltb, eqb}
+use lib.ListN.{length, take, drop}
+use Rattle.base.specs.Chars.{bytes, spelled}
+use Rattle.file_type.specs.declared.FileType.{FileType}
+use Rattle.file_type.specs.declared.FileType.the-variants.{O, I, S, B, T, C, N, F, ST, A, L}
+use Rattle.parser_spec.specs.Numbers.{digitRun, numberOf}
+use Rattle.parser_spec.specs.Parts.{Part, then, _>>=_, _>>_, give, here, orElse, whole, oneByte, byte, sign, letter, digits, digitsIn, after, firstOf, count, countOf, before}
+use Rattle.address_spec.specs.declared.Maybe.{Maybe}
+use Rattle.address_spec.specs.declared.Maybe.the-variants.{Missing, Is}
+use Rattle.address_spec.specs.declared.Address.{Address}
+use Rattle.address_spec.specs.declared.Parsed.{Parsed}
+use Rattle.address_spec.specs.declared.Parsed.the-variants as parsed
+
+-- "The answer gives type, file, element, position, sub-element, bit flag, count and the length of the kept tag text"
+abbrev pub address : FileType → ℕ → ℕ → Maybe → Maybe → Bool → ℕ → ℕ → Address
+address t f e p b flag n k = record {
+  «file_type» = t;
+  «file_number» = f;
+  «element_number» = e;
+  «pos_number» = p;
+  «sub_element» = b;
+  bit = flag;
+  «element_count» = n;
+  kept = k;
+}
+
+abbrev pub present : Maybe → Bool
+present Missing = false
+present (Is n) = true
+
+abbrev pub orZero : Maybe → ℕ
+orZero Missing = 0
+orZero (Is n) = n
+
+-- ---- what several forms share
+-- "File 1 to 255, element at most 255, bit at most 15, unless said."
+abbrev pub file : Part ℕ
+file = digitsIn 3 1 255
+
+abbrev pub element : Part ℕ
+element = digitsIn 3 0 255
+
+-- file and the sign behind it
+unfoldable pub fileBefore : ℕ → Part ℕ
+fileBefore v = do f ← file; byte v; give f
+
+abbrev pub fileThen : Char → Part ℕ
+fileThen c = fileBefore (code c)
+
+-- "optional `/`bit (2 at most)"
+unfoldable pub optionalBit : Part Maybe
+optionalBit = after "/" (do n ← digitsIn 2 0 15; give (Is n)) Missing
+
+-- "optional `/`bit, count"
+unfoldable pub bitCount : Part (Maybe × ℕ)
+bitCount = do b ← optionalBit; n ← count; give (b, n)
+
+-- ---- C, T
+-- "PRE 1, ACC 2, EN 15, TT 14, DN 13, CU 15, CD 14, OV 12, UN 11, UA 10. Any name suits either letter."
+unfoldable pub ctNames : List (String × ℕ)
+ctNames =
+    ("PRE", 1) ∷ ("ACC", 2) ∷ ("EN", 15) ∷ ("TT", 14) ∷ ("DN", 13) ∷ ("CU", 15) ∷ ("CD", 14) ∷ ("OV", 12) ∷ ("UN", 11) ∷ ("UA", 10) ∷ []
+
+-- "then exactly one name": all the rest spells it
+unfoldable pub nameIn : List (String × ℕ) → Part ℕ
+nameIn [] s = none
+nameIn (x ∷ xs) s = cond (spelled true (bytes (x .0)) s) (some (x .1, [])) (nameIn xs s)
+
+-- "one byte that isn't a newline"
+abbrev pub separates : ℕ → Bool
+separates b = not (eqb b 10)
+
+module _ (separator : ℕ → Bool) where
+  -- an element of k digits, a separator, a name
+  unfoldable pub cut : ℕ → Part (ℕ × ℕ)
+  cut k s = then (oneByte separator (drop k s)) (λ _ r. then (nameIn ctNames r) (λ n q. some ((numberOf (take k s), n), q)))
+
+  -- the same with k digits or fewer, "longest cut first"
+  unfoldable pub cuts : ℕ → Part (ℕ × ℕ)
+  cuts zero s = none
+  cuts (suc k) s = orElse (cut (suc k) s) (cuts k s)
+
+  unfoldable pub elementName : Part (ℕ × ℕ)
+  elementName s = cuts (min (digitRun s) 3) s
+
+  -- "C, T: file (1 to 3 digits), `:`, element (1 to 3 digits, longest cut first), one byte that isn't a newline, then exactly one name, no count"
+  unfoldable pub ct : List ℕ → Option Address
+  ct tag = whole (do
+    t ← firstOf (("C", C) ∷ ("T", T) ∷ [])
+    f ← fileThen ":"
+    x ← elementName
+    here (leb (x .0) 255)
+    give (address t f (x .0) Missing (Is (x .1)) true 1 (length tag))) tag
+
+-- ---- the other forms
+-- "L, F, B, N: file, `:`, element (3 digits at most), optional `/`bit (2 at most), count."
+unfoldable pub lfbn : List ℕ → Option Address
+lfbn tag = whole (do
+  t ← firstOf (("L", L) ∷ ("F", F) ∷ ("B", B) ∷ ("N", N) ∷ [])
+  f ← fileThen ":"
+  e ← element
+  x ← bitCount
+  give (address t f e Missing (x .0) (present (x .0)) (x .1) (before "{" tag))) tag
+
+-- "optional number of 1 to 3 digits, ignored"
+unfoldable pub ignored : Part (Unit {0})
+ignored s = cond (eqb (digitRun s) 0) (some (tt, s)) (then (digits 3 s) (λ _ r. some (tt, r)))
+
+-- "optional `.`position (0 to 999)"; "0 if unwritten"
+unfoldable pub optionalPosition : Part ℕ
+optionalPosition = after "." (digitsIn 3 0 999) 0
+
+-- "File is 0 for O, 1 for I."
+abbrev pub slots : List (Char × (FileType × ℕ))
+slots = ("I", (I, 1)) ∷ ("O", (O, 0)) ∷ []
+
+unfoldable pub slot : Part (FileType × ℕ)
+slot = do t ← firstOf slots; ignored; sign ":"; give t
+
+-- "I, O: optional number of 1 to 3 digits, ignored; `:`, element, optional `.`position (0 to 999), optional `/`bit, count."; "sub-element is missing without a bit or name, but 0 on I and O"
+unfoldable pub io : List ℕ → Option Address
+io tag = whole (do
+  t ← slot
+  e ← element
+  p ← optionalPosition
+  x ← bitCount
+  give (address (t .0) (t .1) e (Is p) (Is (orZero (x .0))) (present (x .0)) (x .1) (before "{" tag))) tag
+
+-- "ST, A: file, `:`, element (4 digits at most), count."; "ST takes only {1} or {2}"
+unfoldable pub stOrA : Bool → Part FileType
+stOrA true = do letter "S"; letter "T"; give ST
+stOrA false = do letter "A"; give A
+
+unfoldable pub sta : Bool → List ℕ → Option Address
+sta st tag = whole (do
+  t ← stOrA st
+  f ← fileThen ":"
+  e ← digitsIn 4 0 255
+  n ← countOf st
+  give (address t f e Missing Missing false n (before "{" tag))) tag
+
+-- "all of it for .. S with a bit, else what stands before `{`"
+abbrev pub keptOf : Maybe → List ℕ → ℕ
+keptOf Missing tag = before "{" tag
+keptOf (Is n) tag = length tag
+
+-- "S: `:`, element, optional `/`bit, count. File 2."
+unfoldable pub status : List ℕ → Option Address
+status tag = whole (do
+  letter "S"
+  sign ":"
+  e ← element
+  x ← bitCount
+  give (address S 2 e Missing (x .0) (present (x .0)) (x .1) (keptOf (x .0) tag))) tag
+
+-- "B: file, `/`, bit 0 to 4095 (4 digits at most), count; element is bit / 16, bit is the remainder."
+unfoldable pub bits : List ℕ → Option Address
+bits tag = whole (do
+  letter "B"
+  f ← fileThen "/"
+  x ← digitsIn 4 0 4095
+  n ← count
+  give (address B f (x / 16) Missing (Is (x % 16)) true n (before "{" tag))) tag
+
+-- ---- the forms in the Rust's order
+unfoldable pub orTry : Option Address → Option Address → Option Address
+orTry none q = q
+orTry (some x) q = some x
+
+unfoldable pub lastForms : List ℕ → Option Address
+lastForms tag = orTry (sta true tag) (orTry (sta false tag) (orTry (status tag) (bits tag)))
+
+unfoldable pub formOf : (ℕ → Bool) → List ℕ → Option Address
+formOf separator tag = orTry (ct separator tag) (orTry (lfbn tag) (orTry (io tag) (lastForms tag)))
+
+-- ---- questions 1 and 2
+unfoldable pub ascii : List ℕ → Bool
+ascii [] = true
+ascii (x ∷ r) = ltb x 128 && ascii r
+
+abbrev pub accepted : Option Address → Parsed
+accepted none = parsed.Refused 2
+accepted (some x) = parsed.Is x
+
+-- "1. Is the tag at most 255 bytes, each below 128? no: 1. 2. Does `parse_tag` accept it? no: 2"
+unfoldable pub addressOf : List ℕ → Parsed
+addressOf tag = cond (leb (length tag) 255 && ascii tag) (accepted (formOf separates tag)) (parsed.Refused 1)

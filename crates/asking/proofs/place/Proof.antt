@@ -1,7 +1,0 @@
-use Rattle.asking.proofs.Asking.{at-place}
-use borrow.Author.Needs.{needs}
-use Rattle.asking.proofs.place.Statement.{statement}
-use Rattle.asking.proofs.place.Tie as tie
-
-pub place-spec : {M : Type 1} → statement M
-place-spec = tie.close (tie.spec (λ c κs. search needs) (λ c. search (at-place, needs)))

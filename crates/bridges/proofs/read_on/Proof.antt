@@ -1,8 +1,0 @@
-use Rattle.bridges.proofs.Elements.{reads}
-use borrow.Author.Needs.{needs}
-use Rattle.bridges.proofs.read_on.Statement.{statement}
-use Rattle.bridges.proofs.read_on.Tie as tie
-use Rattle.bridges.proofs.read_on.Reads as reads
-
-pub read-on-spec : {M : Type 1} → statement M
-read-on-spec = tie.close (tie.spec (λ c κs. search needs) (λ c κs. search needs) (λ c. search needs) (λ c. search (reads, needs)))

@@ -1,7 +1,0 @@
-use Rattle.cursor.proofs.Numbers.{low-value, high-value, value}
-use borrow.Author.Needs.{needs}
-use Rattle.cursor.proofs.digit_value.Statement.{statement}
-use Rattle.cursor.proofs.digit_value.Tie as tie
-
-pub digit-value-spec : {M : Type 1} → statement M
-digit-value-spec = tie.close (tie.spec (λ c. search (low-value, needs)) (λ c. search (high-value, needs)) (λ c. search needs) (λ c. search (value, needs)))

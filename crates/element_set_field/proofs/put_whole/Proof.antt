@@ -1,0 +1,16 @@
+use Rattle.element_set_field.proofs.Fields.{whole-out, whole-in}
+use borrow.Author.Needs.{needs}
+use Rattle.element_set_field.proofs.put_whole.Statement.{statement}
+use Rattle.element_set_field.proofs.put_whole.Tie as tie
+
+pub put-whole-spec : {M : Type 1} → statement M
+put-whole-spec =
+    tie.close
+    (tie.spec
+    (λ c κs. search needs)
+    (λ c. search needs)
+    (λ c. search needs)
+    (λ c h. search (whole-out, needs))
+    (λ c κs. search needs)
+    (λ c. search needs)
+    (λ c h. search (whole-in, h, needs)))

@@ -1,0 +1,14 @@
+use Rattle.element_set_text.proofs.Texts.{ascii-stored}
+use borrow.Author.Needs.{needs}
+use Rattle.element_set_text.proofs.put_ascii.Statement.{statement}
+use Rattle.element_set_text.proofs.put_ascii.Tie as tie
+
+pub put-ascii-spec : {M : Type 1} → statement M
+put-ascii-spec =
+    tie.close
+    (tie.spec
+    (λ c κs. search needs)
+    (λ c. search needs)
+    (λ c κs. search needs)
+    (λ c. search needs)
+    (λ c h. search (ascii-stored, h, needs)))

@@ -1,0 +1,15 @@
+use Rattle.element_set_text.proofs.Texts.{line-long, line-stored}
+use borrow.Author.Needs.{needs}
+use Rattle.element_set_text.proofs.put_line.Statement.{statement}
+use Rattle.element_set_text.proofs.put_line.Tie as tie
+
+pub put-line-spec : {M : Type 1} → statement M
+put-line-spec =
+    tie.close
+    (tie.spec
+    (λ c h. search (line-long, needs))
+    (λ c κs. search needs)
+    (λ c. search needs)
+    (λ c κs. search needs)
+    (λ c. search needs)
+    (λ c h. search (line-stored, h, needs)))

@@ -1,7 +1,0 @@
-use Rattle.spelling.proofs.Forms.{kept-before, kept-whole}
-use borrow.Author.Needs.{needs}
-use Rattle.forms.proofs.kept_of.Statement.{statement}
-use Rattle.forms.proofs.kept_of.Tie as tie
-
-pub kept-of-spec : {M : Type 1} → statement M
-kept-of-spec = tie.close (tie.spec (λ c. search needs) (λ c κs. search needs) (λ c. search needs) (λ c. search (kept-before, needs)) (λ c. search (kept-whole, needs)))

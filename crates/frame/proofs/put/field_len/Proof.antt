@@ -1,7 +1,0 @@
-use Rattle.frame.proofs.Laid.{short-len, long-len}
-use Rattle.frame.proofs.put.field_len.Statement.{statement}
-use Rattle.frame.proofs.put.field_len.Tie as tie
-use borrow.Author.Needs.{needs}
-
-pub field-len-spec : {M : Type 1} → statement M
-field-len-spec = tie.close (tie.spec (λ c. search (long-len, needs)) (λ c. search (short-len, needs)))

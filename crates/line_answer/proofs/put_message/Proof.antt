@@ -1,9 +1,0 @@
-use Rattle.frame.proofs.Laid.{lays, then}
-use borrow.Author.Needs.{needs}
-use Rattle.line_answer.proofs.put_message.Statement.{statement}
-use Rattle.line_answer.proofs.put_message.Tie as tie
-
-pub put-message-spec : {M : Type 1} → statement M
-put-message-spec =
-    tie.close
-    (tie.spec (λ c κs. search needs) (λ c. search needs) (λ c κs. search needs) (λ c. search needs) (λ c. search (then, lays, needs)))

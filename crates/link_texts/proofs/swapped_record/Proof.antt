@@ -1,0 +1,10 @@
+use Rattle.link_texts.specs.Written.{swappedRecord}
+use Rattle.link_types.proofs.Records.{case}
+use borrow.Author.Needs.{needs}
+use Rattle.link_texts.proofs.swapped_record.Statement.{statement}
+use Rattle.link_texts.proofs.swapped_record.Tie as tie
+
+pub swapped-record-spec : {M : Type 1} → statement M
+swapped-record-spec =
+    tie.close
+    (tie.spec (λ c. search needs) (λ c κs. search needs) (λ c. search needs) (λ c κs. search needs) (λ c. search (case swappedRecord, needs)) (λ c. search (case swappedRecord, needs)))

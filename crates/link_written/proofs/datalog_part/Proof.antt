@@ -1,7 +1,0 @@
-use Rattle.link_written.proofs.Laying.{entry}
-use borrow.Author.Needs.{needs}
-use Rattle.link_written.proofs.datalog_part.Statement.{statement}
-use Rattle.link_written.proofs.datalog_part.Tie as tie
-
-pub datalog-part-spec : {M : Type 1} → statement M
-datalog-part-spec = tie.close (tie.spec (λ c κs. search needs) (λ c κs. search needs) (λ c. search (entry, needs)))

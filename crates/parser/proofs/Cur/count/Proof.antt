@@ -1,0 +1,24 @@
+use Rattle.parser_spec.specs.Parts.{countOf}
+use Rattle.parser.proofs.Reading.{reading}
+use borrow.Author.Needs.{needs}
+use Rattle.parser.proofs.Cur.count.Statement.{statement}
+use Rattle.parser.proofs.Cur.count.Tie as tie
+
+pub count-spec : {M : Type 1} → statement M
+unfolding countOf
+count-spec =
+    tie.close
+    (tie.spec
+    (λ c κs. search needs)
+    (λ c. search needs)
+    (λ c. search needs)
+    (λ c. search (reading, needs))
+    (λ c κs. search needs)
+    (λ c. search needs)
+    (λ c. search needs)
+    (λ c. search (reading, needs))
+    (λ c κs. search needs)
+    (λ c. search needs)
+    (λ c. search needs)
+    (λ c. search (reading, needs))
+    (λ c. search (reading, needs)))

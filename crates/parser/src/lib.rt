@@ -1,0 +1,214 @@
+// Reading a text of bytes part by part. A reader answers what it read and a cursor behind it.
+ghost use mathlib.Core.Path.{_≡_};
+ghost use Prim.Native.Nat.{_+_, _*_, min};
+ghost use lib.ListN.{drop};
+ghost use Rattle.parser_spec.specs.Numbers.{isDigit, digitValue, Run, most, numberOf};
+ghost use Rattle.parser_spec.specs.Parts.{atEnd, byte, letterByte, numeral, digits, digitsIn, countNumber, countOf, beforeByte};
+ghost use Rattle.parser.specs.Answers.{placeOf, numberAt, wordOf};
+
+// A place in a text.
+pub struct Cur {
+    pub i: usize,
+}
+
+pub enum Place {
+    No,
+    At(Cur),
+}
+
+pub enum Number {
+    No,
+    Got(u64, Cur),
+}
+
+pub enum Word {
+    No,
+    Got(u16, Cur),
+}
+
+fn is_digit(b: u8) -> bool
+    ensures { λ r. ⌜ r ≡ isDigit b ⌝ }
+{
+    if b < 48 {
+        return false;
+    }
+    b <= 57
+}
+
+// The value of a digit, 0 of any other byte.
+fn digit_value(b: u8) -> u64
+    ensures { λ r. ⌜ r ≡ digitValue b ⌝ }
+{
+    if b < 48 {
+        return 0;
+    }
+    if 57 < b {
+        return 0;
+    }
+    (b - 48) as u64
+}
+
+// How many digits stand at `at`.
+pub fn digit_run(s: &[u8], at: usize) -> usize
+    ensures { λ r. ⌜ Run (now (s .entry)) at r ⌝ }
+{
+    let mut i = at;
+    while i < s.len() {
+        if !is_digit(s[i]) {
+            return i - at;
+        }
+        i += 1;
+    }
+    i - at
+}
+
+const MOST: u64 = 0xFFFF_FFFF_FFFF_FFFF;
+
+// One more digit behind `n`, held to 2^64 - 1.
+fn push_digit(n: u64, b: u8) -> u64
+    ensures { λ r. ⌜ r ≡ min (n * 10 + digitValue b) most ⌝ }
+{
+    let d = digit_value(b);
+    if (MOST - d) / 10 < n {
+        MOST
+    } else {
+        n * 10 + d
+    }
+}
+
+// The value of digits, held to 2^64 - 1.
+pub fn number_of(s: &[u8]) -> u64
+    ensures { λ r. ⌜ r ≡ numberOf (now (s .entry)) ⌝ }
+{
+    let mut n: u64 = 0;
+    let mut i = 0;
+    while i < s.len() {
+        n = push_digit(n, s[i]);
+        i += 1;
+    }
+    n
+}
+
+// How many bytes stand before the first `v`.
+pub fn find(s: &[u8], v: u8) -> usize
+    ensures { λ r. ⌜ r ≡ beforeByte v (now (s .entry)) ⌝ }
+{
+    let mut i = 0;
+    while i < s.len() {
+        if s[i] == v {
+            return i;
+        }
+        i += 1;
+    }
+    i
+}
+
+impl Cur {
+    // This byte.
+    pub fn eat(self, s: &[u8], v: u8) -> Place
+        ensures { λ r. ⌜ byte v (drop (self .i) (now (s .entry))) ≡ placeOf (now (s .entry)) r ⌝ }
+    {
+        let i = self.i;
+        if s.len() <= i {
+            return Place::No;
+        }
+        if s[i] == v {
+            return Place::At(Cur { i: i + 1 });
+        }
+        Place::No
+    }
+
+    // This capital letter or its small one.
+    pub fn letter(self, s: &[u8], v: u8) -> Place
+        ensures { λ r. ⌜ letterByte v (drop (self .i) (now (s .entry))) ≡ placeOf (now (s .entry)) r ⌝ }
+    {
+        let i = self.i;
+        if s.len() <= i {
+            return Place::No;
+        }
+        if base::letter(s[i], true) == v {
+            return Place::At(Cur { i: i + 1 });
+        }
+        Place::No
+    }
+
+    // One digit or more, and no digit behind them.
+    pub fn numeral(self, s: &[u8]) -> Number
+        ensures { λ r. ⌜ numeral (drop (self .i) (now (s .entry))) ≡ numberAt (now (s .entry)) r ⌝ }
+    {
+        let i = self.i;
+        let n = digit_run(s, i);
+        if n == 0 {
+            return Number::No;
+        }
+        let e = i + n;
+        Number::Got(number_of(&s[i..e]), Cur { i: e })
+    }
+
+    // The same, with at most so many digits.
+    pub fn digits(self, s: &[u8], max: usize) -> Number
+        ensures { λ r. ⌜ digits max (drop (self .i) (now (s .entry))) ≡ numberAt (now (s .entry)) r ⌝ }
+    {
+        let i = self.i;
+        if max < digit_run(s, i) {
+            return Number::No;
+        }
+        self.numeral(s)
+    }
+
+    // The same, from low to high.
+    pub fn digits_in(self, s: &[u8], max: usize, low: u16, high: u16) -> Word
+        ensures { λ r. ⌜ digitsIn max low high (drop (self .i) (now (s .entry))) ≡ wordOf (now (s .entry)) r ⌝ }
+    {
+        let Number::Got(n, c) = self.digits(s, max) else {
+            return Word::No;
+        };
+        if n < (low as u64) {
+            return Word::No;
+        }
+        if (high as u64) < n {
+            return Word::No;
+        }
+        Word::Got(n as u16, c)
+    }
+
+    // The number of a count: any, or only 1 or 2.
+    fn count_number(self, s: &[u8], one_or_two: bool) -> Number
+        ensures { λ r. ⌜ countNumber «one_or_two» (drop (self .i) (now (s .entry))) ≡ numberAt (now (s .entry)) r ⌝ }
+    {
+        if !one_or_two {
+            return self.numeral(s);
+        }
+        let Word::Got(n, c) = self.digits_in(s, 1, 1, 2) else {
+            return Number::No;
+        };
+        Number::Got(n as u64, c)
+    }
+
+    // An optional `{n}`, 1 where it is absent.
+    pub fn count(self, s: &[u8], one_or_two: bool) -> Number
+        ensures { λ r. ⌜ countOf «one_or_two» (drop (self .i) (now (s .entry))) ≡ numberAt (now (s .entry)) r ⌝ }
+    {
+        let Place::At(c) = self.eat(s, b'{') else {
+            return Number::Got(1, self);
+        };
+        let Number::Got(n, d) = c.count_number(s, one_or_two) else {
+            return Number::No;
+        };
+        let Place::At(e) = d.eat(s, b'}') else {
+            return Number::No;
+        };
+        Number::Got(n, e)
+    }
+
+    // Nothing is left.
+    pub fn done(self, s: &[u8]) -> bool
+        ensures { λ r. ⌜ r ≡ atEnd (drop (self .i) (now (s .entry))) ⌝ }
+    {
+        let i = self.i;
+        if i < s.len() {
+            return false;
+        }
+        true
+    }
+}

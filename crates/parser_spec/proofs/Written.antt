@@ -1,0 +1,97 @@
+-- What was written is read back: a law for each part.
+use Prim.Native.Nat.{ℕ, suc, _+_, _≤_, _<_}
+use Prim.Native.Char.{Char}
+use mathlib.Core.Path.{_≡_, refl, ap, sym, _∙_}
+use mathlib.Core.List.{List, [], _∷_, _++_}
+use mathlib.Core.Option.{Option, none, some}
+use mathlib.Core.Bool.{Bool, true, false, cond}
+use native.Mathlib.Omega.{arith}
+use borrow.Author.Tests.{eq-eqb, le-leb, lt-ltb}
+use lib.Dec.{eqb}
+use lib.ListN.{length, take, drop}
+use lib.Seq.{take-append-seam, drop-append-seam}
+use Rattle.base.specs.Chars.{upper}
+use Rattle.parser_spec.specs.Numbers.{isDigit, digitRun, numberOf}
+use Rattle.parser_spec.specs.Parts.{Part, then, orElse, ended, whole, atEnd, here, oneByte, byte, letterByte, letter, numeral, digits, digitsIn, afterByte, firstOf, countNumber, countOf}
+
+-- ---- one part behind another
+module _ {A B : Type 0} {x : Option (A × List ℕ)} (k : A → Part B) where
+  pub step : {a : A} {s : List ℕ} → x ≡ some (a, s) → then x k ≡ k a s
+  unfolding then
+  step e = ap (λ (y : Option (A × List ℕ)). then y k) e
+
+  pub stop : x ≡ none → then x k ≡ none
+  unfolding then
+  stop e = ap (λ (y : Option (A × List ℕ)). then y k) e
+
+module _ {A : Type 0} where
+  pub whole-read : (p : Part A) (s : List ℕ) (a : A) → p s ≡ some (a, []) → whole p s ≡ some a
+  unfolding whole ended atEnd
+  whole-read p s a e = rw e
+
+  pub after-read : (v : ℕ) (p : Part A) (a : A) (t : List ℕ) {s : List ℕ} → byte v t ≡ some (tt, s) → afterByte v p a t ≡ p s
+  unfolding afterByte
+  after-read v p a t e = rw e
+
+  pub after-absent : (v : ℕ) (p : Part A) (a : A) (s : List ℕ) → byte v s ≡ none → afterByte v p a s ≡ some (a, s)
+  unfolding afterByte
+  after-absent v p a s e = rw e
+
+  module _ (c : Char) (a : A) (xs : List (Char × A)) (t : List ℕ) where
+    pub first-read : {s : List ℕ} → letter c t ≡ some (tt, s) → firstOf ((c, a) ∷ xs) t ≡ some (a, s)
+    unfolding firstOf orElse then
+    first-read e = rw e
+
+    pub first-past : letter c t ≡ none → firstOf ((c, a) ∷ xs) t ≡ firstOf xs t
+    unfolding firstOf orElse then
+    first-past e = rw e
+
+-- ---- one byte
+pub one-read : (test : ℕ → Bool) (b : ℕ) (r : List ℕ) → test b ≡ true → oneByte test (b ∷ r) ≡ some (tt, r)
+unfolding oneByte here
+one-read test b r e = rw e
+
+pub byte-read : (v : ℕ) (r : List ℕ) → byte v (v ∷ r) ≡ some (tt, r)
+unfolding byte
+byte-read v r = one-read _ v r (eq-eqb v v refl)
+
+pub letter-read : (v b : ℕ) (r : List ℕ) → upper b ≡ v → letterByte v (b ∷ r) ≡ some (tt, r)
+unfolding letterByte
+letter-read v b r e = one-read _ b r (eq-eqb _ _ e)
+
+-- ---- numbers: digits `d` with no digit behind them
+pub run-read : (d r : List ℕ) → digitRun d ≡ length d → digitRun r ≡ 0 → digitRun (d ++ r) ≡ length d
+unfolding digitRun
+run-read [] r e z = z
+run-read (b ∷ d) r e z = go (isDigit b) (λ (h : digitRun d ≡ length d). run-read d r h z) e
+  where
+    go : (t : Bool) → (digitRun d ≡ length d → digitRun (d ++ r) ≡ length d) → cond t (suc (digitRun d)) 0 ≡ suc (length d) → cond t (suc (digitRun (d ++ r))) 0 ≡ suc (length d)
+    go true f e = ap suc (f (omega arith))
+    go false f e = absurd (omega arith)
+
+module _ (d r : List ℕ) (e : digitRun d ≡ length d) (h : 0 < length d) (z : digitRun r ≡ 0) where
+  pub numeral-read : numeral (d ++ r) ≡ some (numberOf d, r)
+  unfolding numeral
+  numeral-read = rw (run-read d r e z, lt-ltb 0 (length d) h, take-append-seam d r, drop-append-seam d r)
+
+  module _ (max : ℕ) (l : length d ≤ max) where
+    pub digits-read : digits max (d ++ r) ≡ some (numberOf d, r)
+    unfolding digits
+    digits-read = rw (run-read d r e z, le-leb (length d) max l) numeral-read
+
+    pub in-read : (low high : ℕ) → low ≤ numberOf d → numberOf d ≤ high → digitsIn max low high (d ++ r) ≡ some (numberOf d, r)
+    unfolding digitsIn then here
+    in-read low high a b = rw (digits-read, le-leb low (numberOf d) a, le-leb (numberOf d) high b)
+
+-- ---- counts
+pub count-read : (oneOrTwo : Bool) (s r : List ℕ) (n : ℕ) → countNumber oneOrTwo s ≡ some (n, 125 ∷ r) → countOf oneOrTwo (123 ∷ s) ≡ some (n, r)
+unfolding countOf
+count-read oneOrTwo s r n e = after-read 123 _ 1 (123 ∷ s) (byte-read 123 s) ∙ step _ e ∙ step _ (byte-read 125 r)
+
+pub count-absent : (oneOrTwo : Bool) (s : List ℕ) → byte 123 s ≡ none → countOf oneOrTwo s ≡ some (1, s)
+unfolding countOf
+count-absent oneOrTwo s e = after-absent 123 _ 1 s e
+
+pub any-read : (d r : List ℕ) → digitRun d ≡ length d → 0 < length d → countOf false (123 ∷ (d ++ (125 ∷ r))) ≡ some (numberOf d, r)
+unfolding countNumber digitRun
+any-read d r e h = count-read false (d ++ (125 ∷ r)) r (numberOf d) (numeral-read d (125 ∷ r) e h refl)

@@ -1,0 +1,80 @@
+// Building a processor, `Slc::new`, in three parts: `judge` puts the questions, the records are laid in the lent table, each made by
+// `record_of`, and `build_end::finish` clears the data and gives the processor.
+ghost use mathlib.Core.Path.{_≡_};
+ghost use Rattle.processor_spec.specs.Build.{planOf};
+ghost use Rattle.processor_build_spec.specs.Plans.{listJudged, judgedOf, recordOf};
+use processor_build_spec::Judged;
+use processor_spec::FileRecord;
+
+// The files of an empty list, O to F: number, type code, elements.
+const DEFAULTS: [[u32; 3]; 9] = [
+    [0, 0x82, 8],
+    [1, 0x83, 8],
+    [2, 0x84, 83],
+    [3, 0x85, 32],
+    [4, 0x86, 16],
+    [5, 0x87, 16],
+    [6, 0x88, 8],
+    [7, 0x89, 100],
+    [8, 0x8A, 50],
+];
+
+// 11 and 12 for each file in turn, then 13, 14, 15.
+fn judge_list(
+    files: &[[u32; 3]],
+    text: &[u8],
+    log: &[u8],
+    count: usize,
+    table_length: usize,
+    memory_length: usize,
+) -> Judged
+    ensures { λ r. ⌜ r ≡ listJudged (now (files .entry)) (now (text .entry)) (now (log .entry)) count «table_length» «memory_length» ⌝ }
+{
+    let n = processor_build_files::refused(files);
+    if n != 0 {
+        return processor_build_spec::refuse(n);
+    }
+    if !processor_soundness::good_text(build_end::type_text(text), text.len()) {
+        return processor_build_spec::refuse(13);
+    }
+    let s = processor_build_files::summed(files);
+    if !processor_build_spec::room_for(s, table_length, memory_length) {
+        return processor_build_spec::refuse(14);
+    }
+    if !processor_soundness::good_log(log, 0, count) {
+        return processor_build_spec::refuse(15);
+    }
+    Judged {
+        refused: 0,
+        records: s.records,
+        total: s.total,
+    }
+}
+
+// Puts the questions of building: the files, each a number, a type code and how many elements it has, the type text, the datalog's
+// memory and how many entries it has, and how long the lent table and the data memory are.
+pub fn judge(
+    files: &[[u32; 3]],
+    text: &[u8],
+    log: &[u8],
+    count: usize,
+    table_length: usize,
+    memory_length: usize,
+) -> Judged
+    ensures { λ r. ⌜ r ≡ judgedOf (planOf (now (files .entry)) (now (text .entry)) (now (log .entry)) count) «table_length» «memory_length» ⌝ }
+{
+    if files.len() == 0 {
+        return judge_list(&DEFAULTS, text, log, count, table_length, memory_length);
+    }
+    judge_list(files, text, log, count, table_length, memory_length)
+}
+
+// The i-th record, in ascending order of the numbers, end to end.
+pub fn record_of(files: &[[u32; 3]], i: usize) -> FileRecord
+    ensures { λ r. ⌜ r ≡ recordOf (now (files .entry)) i ⌝ }
+{
+    if files.len() == 0 {
+        return processor_build_files::record_in(&DEFAULTS, i);
+    }
+    processor_build_files::record_in(files, i)
+}

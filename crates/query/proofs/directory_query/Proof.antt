@@ -1,7 +1,0 @@
-use Rattle.query.proofs.Asking.{directory-is}
-use borrow.Author.Needs.{needs}
-use Rattle.query.proofs.directory_query.Statement.{statement}
-use Rattle.query.proofs.directory_query.Tie as tie
-
-pub directory-query-spec : {M : Type 1} → statement M
-directory-query-spec = tie.close (tie.spec (λ c κs. search needs) (λ c. search (directory-is, needs)))

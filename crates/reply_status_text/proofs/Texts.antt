@@ -1,0 +1,48 @@
+-- Laws of the texts of the status codes.
+use Prim.Native.Nat.{ℕ, _≤_, _<_}
+use mathlib.Core.Path.{_≡_, refl, ap, sym, subst, _∙_}
+use mathlib.Core.Option.{Option, none, some}
+use mathlib.Core.Bool.{true, false}
+use mathlib.Core.List.{List, [], _∷_}
+use native.Mathlib.Nat.{zero-add}
+use native.Mathlib.Omega.{arith}
+use borrow.Author.Tests.{lt-ltb, le-ltb, ne-eqb}
+use lib.Dec.{ltb}
+use lib.ListN.{length}
+use Rattle.base.specs.Put.{Wrote, Puts}
+use Rattle.reply_status_text.specs.declared.StatusText.{StatusText}
+use Rattle.reply_status_text.specs.declared.StatusText.the-variants as statusText·
+use Rattle.reply_status_text.specs.Texts.{texts, textIn, textOf, Tells}
+
+-- ---- a text written, where there is room
+module _ (text l : List ℕ) where
+  pub no-room : length l < 96 → Tells (some text) l (statusText·.Refused 6) l
+  no-room h = let t : ltb (length l) 96 ≡ true = lt-ltb (length l) 96 h in record { answer = rw t; memory = rw t }
+
+  pub told : {n : ℕ} {m : List ℕ} → 96 ≤ length l → Wrote l 0 text n m → Tells (some text) l (statusText·.Written n) m
+  told {n} {m} h w =
+      let t : ltb (length l) 96 ≡ false = le-ltb (length l) 96 h in
+      record { answer = rw t (ap statusText·.Written (w .end ∙ zero-add (length text))); memory = rw t (w .now) }
+
+  pub put-told : {n : ℕ} {m : List ℕ} → 96 ≤ length l → length text ≤ 96 → Puts l 0 text n m → Tells (some text) l (statusText·.Written n) m
+  put-told h k w = told h (w .room (omega arith))
+
+-- ---- the text of a code
+pub row-told : (code : ℕ) (l m : List ℕ) (r : StatusText) (status : ℕ) (text : List ℕ) → status ≡ code → textIn texts code ≡ some text → Tells (some text) l r m → Tells (textOf status) l r m
+unfolding textOf
+row-told code l m r status text e f w = subst (λ (t : Option (List ℕ)). Tells t l r m) (sym (ap (textIn texts) e ∙ f)) w
+
+-- a status that is none of the codes, beside what else is known, as a `match` leaves it
+abbrev pub NoneOf : Type 0 → List (ℕ × List ℕ) → ℕ → Type 0
+NoneOf X [] c = X
+NoneOf X (row ∷ rows) c = NoneOf (X × (c ≡ row .0 → ⊥)) rows c
+
+none-passes : (X : Type 0) (rows : List (ℕ × List ℕ)) (c : ℕ) → NoneOf X rows c → X × (textIn rows c ≡ none)
+none-passes X [] c h = (h, refl)
+none-passes X (row ∷ rows) c h =
+    let r : (X × (c ≡ row .0 → ⊥)) × (textIn rows c ≡ none) = none-passes (X × (c ≡ row .0 → ⊥)) rows c h in
+    (r .0 .0, rw (ne-eqb (row .0) c (λ (e : row .0 ≡ c). r .0 .1 (sym e))) (r .1))
+
+pub no-text : (l : List ℕ) (c : ℕ) → NoneOf (Unit {0}) texts c → Tells (textOf c) l statusText·.Nothing l
+unfolding textOf
+no-text l c h = rw (none-passes (Unit {0}) texts c h .1) (record { answer = refl; memory = refl })

@@ -1,0 +1,50 @@
+use Rattle.reply_status_text.proofs.Texts.{row-told, no-text}
+use borrow.Author.Needs.{needs}
+use Rattle.reply_status_text.proofs.pccc_error_text.Statement.{statement}
+use Rattle.reply_status_text.proofs.pccc_error_text.Tie as tie
+
+pub pccc-error-text-spec : {M : Type 1} → statement M
+pccc-error-text-spec =
+    tie.close
+    (tie.spec
+    (λ c. search needs)
+    (λ c κs. search needs)
+    (λ c. search needs)
+    (λ c κs. search needs)
+    (λ c. search needs)
+    (λ c κs. search needs)
+    (λ c. search needs)
+    (λ c κs. search needs)
+    (λ c. search needs)
+    (λ c κs. search needs)
+    (λ c. search needs)
+    (λ c κs. search needs)
+    (λ c. search needs)
+    (λ c κs. search needs)
+    (λ c. search needs)
+    (λ c κs. search needs)
+    (λ c. search needs)
+    (λ c κs. search needs)
+    (λ c. search needs)
+    (λ c κs. search needs)
+    (λ c. search needs)
+    (λ c. search (row-told 0x10, needs))
+    (λ c. search needs)
+    (λ c. search (row-told 0x20, needs))
+    (λ c. search needs)
+    (λ c. search (row-told 0x30, needs))
+    (λ c. search needs)
+    (λ c. search (row-told 0x40, needs))
+    (λ c. search needs)
+    (λ c. search (row-told 0x50, needs))
+    (λ c. search needs)
+    (λ c. search (row-told 0x60, needs))
+    (λ c. search needs)
+    (λ c. search (row-told 0x70, needs))
+    (λ c. search needs)
+    (λ c. search (row-told 0x80, needs))
+    (λ c. search needs)
+    (λ c. search (row-told 0x90, needs))
+    (λ c. search needs)
+    (λ c. search (row-told 0xF0, needs))
+    (λ c. no-text _ _ (c .match .rest)))

@@ -1,0 +1,17 @@
+use Rattle.request_frame.proofs.Laid.{field-long, field-short, lays}
+use borrow.Author.Needs.{needs}
+use Rattle.request_frame.proofs.put.address_field.Statement.{statement}
+use Rattle.request_frame.proofs.put.address_field.Tie as tie
+
+pub address-field-spec : {M : Type 1} → statement M
+address-field-spec =
+    tie.close
+    (tie.spec
+    (λ c κs. search needs)
+    (λ c. search needs)
+    (λ c. search (field-short, lays, needs))
+    (λ c. search needs)
+    (λ c κs. search needs)
+    (λ c κs. search needs)
+    (λ c. search needs)
+    (λ c. search (field-long, lays, needs)))

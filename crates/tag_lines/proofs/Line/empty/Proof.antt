@@ -1,6 +1,0 @@
-use Rattle.tag_lines.proofs.Onward.{keeping-none}
-use Rattle.tag_lines.proofs.Line.empty.Statement.{statement}
-use Rattle.tag_lines.proofs.Line.empty.Tie as tie
-
-pub empty-spec : {M : Type 1} → statement M
-empty-spec = tie.close (tie.spec (λ c. keeping-none))

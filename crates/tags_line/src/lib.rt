@@ -1,0 +1,38 @@
+// The answer to one line of the program `tags`, and the definition of the whole program (specs/Lines.antt).
+ghost use mathlib.Core.List.{[], _∷_, _++_};
+ghost use Rattle.request_frame.specs.Frame.{Lays};
+ghost use Rattle.request_spec.specs.Request.{refused};
+ghost use Rattle.text.specs.Hex.{hex};
+ghost use Rattle.tags_line.specs.Lines.{answer as Lines·answer};
+ghost use Rattle.tags_line.specs.Answered.{Answered};
+use request::Request;
+use request_frame::Requestor;
+
+// `refused` and the number.
+fn put_refused(out: &mut [u8], at: usize, n: u8) -> usize
+    ensures { λ r. ⌜ Lays (now (out .entry)) at (Lines·answer (refused n)) r (now (out .exit)) ⌝ }
+{
+    let a = base::put_all(out, at, b"refused ");
+    let b = decimal::put_decimal(out, a, n as u64);
+    base::put_all(out, b, b"\n")
+}
+
+// A message in capital hexadecimal.
+fn put_message(out: &mut [u8], at: usize, message: &[u8]) -> usize
+    ensures { λ r. ⌜ Lays (now (out .entry)) at (hex (now (message .entry)) ++ (10 ∷ [])) r (now (out .exit)) ⌝ }
+{
+    let a = text::put_hex(out, at, message);
+    base::put_all(out, a, b"\n")
+}
+
+// The answer to a line.
+pub fn answer(tag: &[u8], out: &mut [u8], at: usize) -> usize
+    ensures { λ r. ⌜ Answered (now (tag .entry)) (now (out .entry)) at r (now (out .exit)) ⌝ }
+{
+    let mut message = [0u8; 27];
+    let asked = request::read_request(tag, Requestor::default(), 0, &mut message);
+    match asked {
+        Request::Refused(n) => put_refused(out, at, n),
+        Request::Built(_, n) => put_message(out, at, &message[..n]),
+    }
+}

@@ -1,7 +1,0 @@
-use Rattle.asking.proofs.Supplied.{is-ascii}
-use borrow.Author.Needs.{needs}
-use Rattle.write_asking.proofs.is_ascii.Statement.{statement}
-use Rattle.write_asking.proofs.is_ascii.Tie as tie
-
-pub is-ascii-spec : {M : Type 1} → statement M
-is-ascii-spec = tie.close (tie.spec (λ c κs. search needs) (λ c. search (is-ascii, needs)))
