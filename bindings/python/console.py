@@ -2,7 +2,7 @@
 """console.py < lines: answers the lines of oracle/PROTOCOL.md through slc_link.py, one answer a line, as `./slc console` does. So the library for C can
 be held to the stored sample, and to the Rust:
 
-    CONSOLE='python3 bindings/python/console.py' oracle/compare SEED N
+    CONSOLE='python3 bindings/python/console.py' oracle/bin/compare SEED N
 """
 import re
 import sys

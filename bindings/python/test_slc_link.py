@@ -2,6 +2,7 @@
 import doctest
 import unittest
 from ctypes import Array, Structure, c_uint8, c_uint32
+from pathlib import Path
 
 import slc_link
 from slc_link import *
@@ -18,6 +19,7 @@ def command(function):
 
 def load_tests(loader, tests, pattern):
     tests.addTests(doctest.DocTestSuite(slc_link))
+    tests.addTests(doctest.DocFileSuite(str(Path(__file__).resolve().parents[2] / "README.md"), module_relative=False))
     return tests
 
 

@@ -1,6 +1,6 @@
 // The forms of an address, each read from the whole tag.
 ghost use mathlib.Core.Path.{_≡_};
-ghost use Rattle.address_spec.specs.Answers.{foundOf};
+ghost use Rattle.address_spec.specs.ReaderAnswers.{foundOf};
 ghost use Rattle.address_spec.specs.Spelling.{separates, ct, lfbn, io, sta, keptOf, status, bits, lastForms, formOf};
 use address_spec::Address;
 use address_spec::Found;
@@ -11,9 +11,9 @@ use address_spec::Tail;
 use address_spec::Typed;
 use file_type::FileType;
 use parser::Cur;
-use parser::Number;
-use parser::Place;
-use parser::Word;
+use parser::Eaten;
+use parser::ReadNumber;
+use parser::ReadWord;
 
 // C and T: file, `:`, element, separator, name.
 fn parse_ct(tag: &[u8]) -> Found
@@ -23,7 +23,7 @@ fn parse_ct(tag: &[u8]) -> Found
     let Typed::Is(file_type, c1) = address_phrases::ct_letter(start, tag) else {
         return Found::No;
     };
-    let Word::Got(file, c2) = address_phrases::file_then(c1, tag, b':') else {
+    let ReadWord::Got(file, c2) = address_phrases::file_then(c1, tag, b':') else {
         return Found::No;
     };
     let Named::Got(element, sub) = address_timers::element_name(c2, tag) else {
@@ -52,10 +52,10 @@ fn parse_lfbn(tag: &[u8]) -> Found
     let Typed::Is(file_type, c1) = address_phrases::lfbn_letter(start, tag) else {
         return Found::No;
     };
-    let Word::Got(file, c2) = address_phrases::file_then(c1, tag, b':') else {
+    let ReadWord::Got(file, c2) = address_phrases::file_then(c1, tag, b':') else {
         return Found::No;
     };
-    let Word::Got(element, c3) = c2.digits_in(tag, 3, 0, 255) else {
+    let ReadWord::Got(element, c3) = c2.digits_in(tag, 3, 0, 255) else {
         return Found::No;
     };
     let Tail::Got(sub, count, c4) = address_phrases::bit_count(c3, tag) else {
@@ -85,10 +85,10 @@ fn parse_io(tag: &[u8]) -> Found
     let Slot::Is(file_type, file, c1) = address_phrases::slot(start, tag) else {
         return Found::No;
     };
-    let Word::Got(element, c2) = c1.digits_in(tag, 3, 0, 255) else {
+    let ReadWord::Got(element, c2) = c1.digits_in(tag, 3, 0, 255) else {
         return Found::No;
     };
-    let Word::Got(pos, c3) = address_phrases::optional_position(c2, tag) else {
+    let ReadWord::Got(pos, c3) = address_phrases::optional_position(c2, tag) else {
         return Found::No;
     };
     let Tail::Got(sub, count, c4) = address_phrases::bit_count(c3, tag) else {
@@ -102,7 +102,7 @@ fn parse_io(tag: &[u8]) -> Found
             file_number: file,
             element_number: element,
             pos_number: Maybe::Is(pos),
-            sub_element: Maybe::Is(address_phrases::or_zero(sub)),
+            sub_element: Maybe::Is(address_spec::or_zero(sub)),
             bit: address_phrases::present(sub),
             element_count: count,
             kept: parser::find(tag, b'{'),
@@ -118,13 +118,13 @@ fn parse_st_a(tag: &[u8], st: bool) -> Found
     let Typed::Is(file_type, c1) = address_phrases::st_or_a(start, tag, st) else {
         return Found::No;
     };
-    let Word::Got(file, c2) = address_phrases::file_then(c1, tag, b':') else {
+    let ReadWord::Got(file, c2) = address_phrases::file_then(c1, tag, b':') else {
         return Found::No;
     };
-    let Word::Got(element, c3) = c2.digits_in(tag, 4, 0, 255) else {
+    let ReadWord::Got(element, c3) = c2.digits_in(tag, 4, 0, 255) else {
         return Found::No;
     };
-    let Number::Got(count, c4) = c3.count(tag, st) else {
+    let ReadNumber::Got(count, c4) = c3.count(tag, st) else {
         return Found::No;
     };
     address_phrases::found(
@@ -158,13 +158,13 @@ fn parse_s(tag: &[u8]) -> Found
     ensures { λ r. ⌜ r ≡ foundOf (status (now (tag .entry))) ⌝ }
 {
     let start = Cur { i: 0 };
-    let Place::At(c1) = start.letter(tag, b'S') else {
+    let Eaten::At(c1) = start.letter(tag, b'S') else {
         return Found::No;
     };
-    let Place::At(c2) = c1.eat(tag, b':') else {
+    let Eaten::At(c2) = c1.eat(tag, b':') else {
         return Found::No;
     };
-    let Word::Got(element, c3) = c2.digits_in(tag, 3, 0, 255) else {
+    let ReadWord::Got(element, c3) = c2.digits_in(tag, 3, 0, 255) else {
         return Found::No;
     };
     let Tail::Got(sub, count, c4) = address_phrases::bit_count(c3, tag) else {
@@ -191,16 +191,16 @@ fn parse_b(tag: &[u8]) -> Found
     ensures { λ r. ⌜ r ≡ foundOf (bits (now (tag .entry))) ⌝ }
 {
     let start = Cur { i: 0 };
-    let Place::At(c1) = start.letter(tag, b'B') else {
+    let Eaten::At(c1) = start.letter(tag, b'B') else {
         return Found::No;
     };
-    let Word::Got(file, c2) = address_phrases::file_then(c1, tag, b'/') else {
+    let ReadWord::Got(file, c2) = address_phrases::file_then(c1, tag, b'/') else {
         return Found::No;
     };
-    let Word::Got(bit, c3) = c2.digits_in(tag, 4, 0, 4095) else {
+    let ReadWord::Got(bit, c3) = c2.digits_in(tag, 4, 0, 4095) else {
         return Found::No;
     };
-    let Number::Got(count, c4) = c3.count(tag, false) else {
+    let ReadNumber::Got(count, c4) = c3.count(tag, false) else {
         return Found::No;
     };
     address_phrases::found(

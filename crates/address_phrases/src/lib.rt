@@ -5,9 +5,9 @@ ghost use mathlib.Core.Option.{some};
 ghost use lib.ListN.{drop};
 ghost use Rattle.file_type.specs.declared.FileType.the-variants.{C, T, L, F, B, N};
 ghost use Rattle.parser_spec.specs.Parts.{ended, firstOf};
-ghost use Rattle.parser.specs.Answers.{placeOf, wordOf};
-ghost use Rattle.address_spec.specs.Answers.{typedOf, slotOf, bitOf, tailOf, foundOf};
-ghost use Rattle.address_spec.specs.Spelling.{present as Spelling·present, orZero, fileBefore, optionalBit, bitCount, ignored, optionalPosition, slots, slot as Spelling·slot, stOrA};
+ghost use Rattle.parser.specs.CursorAnswers.{placeOf, wordOf};
+ghost use Rattle.address_spec.specs.ReaderAnswers.{typedOf, slotOf, bitOf, tailOf, foundOf};
+ghost use Rattle.address_spec.specs.Spelling.{present as Spelling·present, fileBefore, optionalBit, bitCount, ignored, optionalPosition, slots, slot as Spelling·slot, stOrA};
 use address_spec::Address;
 use address_spec::Bit;
 use address_spec::Found;
@@ -17,17 +17,17 @@ use address_spec::Tail;
 use address_spec::Typed;
 use file_type::FileType;
 use parser::Cur;
-use parser::Number;
-use parser::Place;
-use parser::Word;
+use parser::Eaten;
+use parser::ReadNumber;
+use parser::ReadWord;
 
 pub fn ct_letter(c: Cur, s: &[u8]) -> Typed
     ensures { λ r. ⌜ firstOf (("C", C) ∷ ("T", T) ∷ []) (drop (c .i) (now (s .entry))) ≡ typedOf (now (s .entry)) r ⌝ }
 {
-    if let Place::At(d) = c.letter(s, b'C') {
+    if let Eaten::At(d) = c.letter(s, b'C') {
         return Typed::Is(FileType::C, d);
     }
-    if let Place::At(d) = c.letter(s, b'T') {
+    if let Eaten::At(d) = c.letter(s, b'T') {
         return Typed::Is(FileType::T, d);
     }
     Typed::No
@@ -36,16 +36,16 @@ pub fn ct_letter(c: Cur, s: &[u8]) -> Typed
 pub fn lfbn_letter(c: Cur, s: &[u8]) -> Typed
     ensures { λ r. ⌜ firstOf (("L", L) ∷ ("F", F) ∷ ("B", B) ∷ ("N", N) ∷ []) (drop (c .i) (now (s .entry))) ≡ typedOf (now (s .entry)) r ⌝ }
 {
-    if let Place::At(d) = c.letter(s, b'L') {
+    if let Eaten::At(d) = c.letter(s, b'L') {
         return Typed::Is(FileType::L, d);
     }
-    if let Place::At(d) = c.letter(s, b'F') {
+    if let Eaten::At(d) = c.letter(s, b'F') {
         return Typed::Is(FileType::F, d);
     }
-    if let Place::At(d) = c.letter(s, b'B') {
+    if let Eaten::At(d) = c.letter(s, b'B') {
         return Typed::Is(FileType::B, d);
     }
-    if let Place::At(d) = c.letter(s, b'N') {
+    if let Eaten::At(d) = c.letter(s, b'N') {
         return Typed::Is(FileType::N, d);
     }
     Typed::No
@@ -55,10 +55,10 @@ pub fn lfbn_letter(c: Cur, s: &[u8]) -> Typed
 fn io_letter(c: Cur, s: &[u8]) -> Slot
     ensures { λ r. ⌜ firstOf slots (drop (c .i) (now (s .entry))) ≡ slotOf (now (s .entry)) r ⌝ }
 {
-    if let Place::At(d) = c.letter(s, b'I') {
+    if let Eaten::At(d) = c.letter(s, b'I') {
         return Slot::Is(FileType::I, 1, d);
     }
-    if let Place::At(d) = c.letter(s, b'O') {
+    if let Eaten::At(d) = c.letter(s, b'O') {
         return Slot::Is(FileType::O, 0, d);
     }
     Slot::No
@@ -69,41 +69,41 @@ pub fn st_or_a(c: Cur, s: &[u8], st: bool) -> Typed
     ensures { λ r. ⌜ stOrA st (drop (c .i) (now (s .entry))) ≡ typedOf (now (s .entry)) r ⌝ }
 {
     if !st {
-        let Place::At(d) = c.letter(s, b'A') else {
+        let Eaten::At(d) = c.letter(s, b'A') else {
             return Typed::No;
         };
         return Typed::Is(FileType::A, d);
     }
-    let Place::At(d) = c.letter(s, b'S') else {
+    let Eaten::At(d) = c.letter(s, b'S') else {
         return Typed::No;
     };
-    let Place::At(e) = d.letter(s, b'T') else {
+    let Eaten::At(e) = d.letter(s, b'T') else {
         return Typed::No;
     };
     Typed::Is(FileType::ST, e)
 }
 
 // A file and the sign behind it.
-pub fn file_then(c: Cur, s: &[u8], sign: u8) -> Word
+pub fn file_then(c: Cur, s: &[u8], sign: u8) -> ReadWord
     ensures { λ r. ⌜ fileBefore sign (drop (c .i) (now (s .entry))) ≡ wordOf (now (s .entry)) r ⌝ }
 {
-    let Word::Got(f, d) = c.digits_in(s, 3, 1, 255) else {
-        return Word::No;
+    let ReadWord::Got(f, d) = c.digits_in(s, 3, 1, 255) else {
+        return ReadWord::No;
     };
-    let Place::At(e) = d.eat(s, sign) else {
-        return Word::No;
+    let Eaten::At(e) = d.eat(s, sign) else {
+        return ReadWord::No;
     };
-    Word::Got(f, e)
+    ReadWord::Got(f, e)
 }
 
 // An optional `/` and bit.
 fn optional_bit(c: Cur, s: &[u8]) -> Bit
     ensures { λ r. ⌜ optionalBit (drop (c .i) (now (s .entry))) ≡ bitOf (now (s .entry)) r ⌝ }
 {
-    let Place::At(d) = c.eat(s, b'/') else {
+    let Eaten::At(d) = c.eat(s, b'/') else {
         return Bit::Got(Maybe::Missing, c);
     };
-    let Word::Got(n, e) = d.digits_in(s, 2, 0, 15) else {
+    let ReadWord::Got(n, e) = d.digits_in(s, 2, 0, 15) else {
         return Bit::No;
     };
     Bit::Got(Maybe::Is(n), e)
@@ -116,24 +116,24 @@ pub fn bit_count(c: Cur, s: &[u8]) -> Tail
     let Bit::Got(b, d) = optional_bit(c, s) else {
         return Tail::No;
     };
-    let Number::Got(n, e) = d.count(s, false) else {
+    let ReadNumber::Got(n, e) = d.count(s, false) else {
         return Tail::No;
     };
     Tail::Got(b, n, e)
 }
 
 // An optional number of 1 to 3 digits, ignored.
-fn ignore_number(c: Cur, s: &[u8]) -> Place
+fn ignore_number(c: Cur, s: &[u8]) -> Eaten
     ensures { λ r. ⌜ ignored (drop (c .i) (now (s .entry))) ≡ placeOf (now (s .entry)) r ⌝ }
 {
     let i = c.i;
     if parser::digit_run(s, i) == 0 {
-        return Place::At(c);
+        return Eaten::At(c);
     }
-    let Number::Got(_, d) = c.digits(s, 3) else {
-        return Place::No;
+    let ReadNumber::Got(_, d) = c.digits(s, 3) else {
+        return Eaten::No;
     };
-    Place::At(d)
+    Eaten::At(d)
 }
 
 // I or O, an optional number, `:`.
@@ -143,21 +143,21 @@ pub fn slot(c: Cur, s: &[u8]) -> Slot
     let Slot::Is(t, f, d) = io_letter(c, s) else {
         return Slot::No;
     };
-    let Place::At(e) = ignore_number(d, s) else {
+    let Eaten::At(e) = ignore_number(d, s) else {
         return Slot::No;
     };
-    let Place::At(g) = e.eat(s, b':') else {
+    let Eaten::At(g) = e.eat(s, b':') else {
         return Slot::No;
     };
     Slot::Is(t, f, g)
 }
 
 // An optional `.` and position, 0 where it is absent.
-pub fn optional_position(c: Cur, s: &[u8]) -> Word
+pub fn optional_position(c: Cur, s: &[u8]) -> ReadWord
     ensures { λ r. ⌜ optionalPosition (drop (c .i) (now (s .entry))) ≡ wordOf (now (s .entry)) r ⌝ }
 {
-    let Place::At(d) = c.eat(s, b'.') else {
-        return Word::Got(0, c);
+    let Eaten::At(d) = c.eat(s, b'.') else {
+        return ReadWord::Got(0, c);
     };
     d.digits_in(s, 3, 0, 999)
 }
@@ -168,15 +168,6 @@ pub fn present(m: Maybe) -> bool
     match m {
         Maybe::Missing => false,
         Maybe::Is(_) => true,
-    }
-}
-
-pub fn or_zero(m: Maybe) -> u16
-    ensures { λ r. ⌜ r ≡ orZero m ⌝ }
-{
-    match m {
-        Maybe::Missing => 0,
-        Maybe::Is(n) => n,
     }
 }
 

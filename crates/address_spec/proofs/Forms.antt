@@ -10,14 +10,14 @@ use lib.Dec.{ltb}
 use lib.ListN.{length, drop, getD, drop-of-length-le}
 use Rattle.base.proofs.Parts.{drop-next}
 use Rattle.file_type.specs.declared.FileType.{FileType}
-use Rattle.parser_spec.specs.Numbers.{Run, digitRun}
+use Rattle.parser_spec.specs.DecimalNumbers.{Run, digitRun}
 use Rattle.parser_spec.specs.Parts.{Part, then, ended, whole, atEnd, letter, give, digits, beforeByte}
-use Rattle.parser.specs.Answers.{placeOf, numberAt}
+use Rattle.parser.specs.CursorAnswers.{placeOf, numberAt}
 use Rattle.parser.specs.declared.Cur.{Cur}
-use Rattle.parser.specs.declared.Place.the-variants as place
-use Rattle.parser.specs.declared.Number.{Number}
-use Rattle.parser.specs.declared.Number.the-variants as number
-use Rattle.address_spec.specs.Answers.{foundOf, typedOf}
+use Rattle.parser.specs.declared.Eaten.the-variants as place
+use Rattle.parser.specs.declared.ReadNumber.{ReadNumber}
+use Rattle.parser.specs.declared.ReadNumber.the-variants as number
+use Rattle.address_spec.specs.ReaderAnswers.{foundOf, typedOf}
 use Rattle.address_spec.specs.Spelling.{address, keptOf, ignored, stOrA, orTry, formOf, separates, ascii, addressOf}
 use Rattle.address_spec.specs.declared.Address.{Address}
 use Rattle.address_spec.specs.declared.Maybe.{Maybe}

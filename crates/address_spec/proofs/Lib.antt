@@ -1,4 +1,4 @@
 pub mod Forms
 pub mod Ranges
-pub mod Reading
-pub mod Rows
+pub mod FormReaders
+pub mod SpellingRows

@@ -1,3 +1,3 @@
-pub mod Answers
+pub mod ReaderAnswers
 pub mod Elements
 pub mod Spelling

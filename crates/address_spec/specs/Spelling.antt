@@ -10,7 +10,7 @@ use lib.ListN.{length, take, drop}
 use Rattle.base.specs.Chars.{bytes, spelled}
 use Rattle.file_type.specs.declared.FileType.{FileType}
 use Rattle.file_type.specs.declared.FileType.the-variants.{O, I, S, B, T, C, N, F, ST, A, L}
-use Rattle.parser_spec.specs.Numbers.{digitRun, numberOf}
+use Rattle.parser_spec.specs.DecimalNumbers.{digitRun, numberOf}
 use Rattle.parser_spec.specs.Parts.{Part, then, _>>=_, _>>_, give, here, orElse, whole, oneByte, byte, sign, letter, digits, digitsIn, after, firstOf, count, countOf, before}
 use Rattle.address_spec.specs.declared.Maybe.{Maybe}
 use Rattle.address_spec.specs.declared.Maybe.the-variants.{Missing, Is}

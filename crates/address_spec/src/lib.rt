@@ -1,4 +1,6 @@
 // The address spelling: the definitions of document 01 (specs/), their laws and rows (proofs/), and the plain data that their readers answer with.
+ghost use mathlib.Core.Path.{_≡_};
+ghost use Rattle.address_spec.specs.Spelling.{orZero};
 use file_type::FileType;
 use parser::Cur;
 
@@ -6,6 +8,16 @@ use parser::Cur;
 pub enum Maybe {
     Missing,
     Is(u16),
+}
+
+// A missing number counts as 0.
+pub fn or_zero(m: Maybe) -> u16
+    ensures { λ r. ⌜ r ≡ orZero m ⌝ }
+{
+    match m {
+        Maybe::Missing => 0,
+        Maybe::Is(n) => n,
+    }
 }
 
 // A data file address.

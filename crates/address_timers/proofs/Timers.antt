@@ -13,10 +13,10 @@ use borrow.Author.Tests.{not-true, not-false}
 use lib.ListN.{length, take, drop, getD, drop-of-length-le, length-drop}
 use lib.Seq.{drop-cons, drop-drop, take-all, length-take-le}
 use Rattle.base.specs.Chars.{bytes, spelled}
-use Rattle.parser_spec.specs.Numbers.{Run, digitRun, numberOf}
+use Rattle.parser_spec.specs.DecimalNumbers.{Run, digitRun, numberOf}
 use Rattle.parser_spec.specs.Parts.{then, here, orElse, oneByte}
-use Rattle.parser.proofs.Reading.{one-end, one-at, here-no, here-yes}
-use Rattle.address_spec.specs.Answers.{maybeOf, namedOf, ctName, ctValue}
+use Rattle.parser.proofs.PartReaders.{one-end, one-at, here-no, here-yes}
+use Rattle.address_spec.specs.ReaderAnswers.{maybeOf, namedOf, ctName, ctValue}
 use Rattle.address_spec.specs.Spelling.{ctNames, nameIn, cut, cuts, elementName}
 use Rattle.address_spec.specs.declared.Maybe.{Maybe}
 use Rattle.address_spec.specs.declared.Maybe.the-variants as maybe

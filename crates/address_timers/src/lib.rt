@@ -4,7 +4,7 @@ ghost use mathlib.Core.Bool.{true};
 ghost use Prim.Native.Nat.{_+_, _≤_, _<_};
 ghost use lib.ListN.{length, drop};
 ghost use Rattle.base.specs.Chars.{spelled};
-ghost use Rattle.address_spec.specs.Answers.{maybeOf, namedOf, ctName, ctValue};
+ghost use Rattle.address_spec.specs.ReaderAnswers.{maybeOf, namedOf, ctName, ctValue};
 ghost use Rattle.address_spec.specs.Spelling.{ctNames, nameIn, separates, cut, elementName};
 use address_spec::Maybe;
 use address_spec::Named;

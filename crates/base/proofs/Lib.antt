@@ -1,6 +1,6 @@
 pub mod Chars
-pub mod Masked
+pub mod Masks
 pub mod Numbers
 pub mod Parts
 pub mod Put
-pub mod Table
+pub mod EveryPlace

@@ -1,5 +1,5 @@
 pub mod Chars
-pub mod Masked
+pub mod Masks
 pub mod Numbers
 pub mod Outcome
 pub mod Put

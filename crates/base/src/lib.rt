@@ -4,7 +4,7 @@ ghost use mathlib.Core.Path.{_≡_};
 ghost use Prim.Native.Nat.{_+_, _≤_, _<_, min};
 ghost use lib.ListN.{length, take, drop};
 ghost use Rattle.base.specs.Chars.{letter as Chars·letter, spelled};
-ghost use Rattle.base.specs.Masked.{mix, bitMask};
+ghost use Rattle.base.specs.Masks.{mix, bitMask};
 ghost use Rattle.base.specs.Numbers.{lowFirst, number};
 ghost use Rattle.base.specs.Put.{Wrote, Puts};
 

@@ -6,10 +6,10 @@ use mathlib.Core.List.{List, _++_}
 use mathlib.Core.Bool.{false}
 use lib.ListN.{length, take, drop}
 use Rattle.base.specs.Put.{Wrote}
-use Rattle.console.specs.declared.say.Place.{Place}
+use Rattle.console.specs.declared.output.Pending.{Pending}
 
 -- `bs` was said behind what waited in `out` up to the place `p`; now `out′` has what waits, up to the place `r`
-pub record Said (out : List ℕ) (p : Place) (bs : List ℕ) (r : Place) (out′ : List ℕ) : Type 0 where
+pub record Said (out : List ℕ) (p : Pending) (bs : List ℕ) (r : Pending) (out′ : List ℕ) : Type 0 where
   pub fits : r .at ≤ length out′
   pub counts : r .at ≡ length (take (r .at) out′)
   pub room : p .at + length bs ≤ length out → Wrote out (p .at) bs (r .at) out′

@@ -1,40 +1,55 @@
 // Answers the lines of oracle/PROTOCOL.md: one request a line on standard input, one answer a line on standard output.
-mod calls_address;
-mod calls_directory;
-mod calls_element;
-mod calls_plain;
-mod calls_processor;
-mod calls_reply;
-mod calls_request;
-mod calls_sim;
-mod calls_store;
-mod calls_type;
-mod protocol;
-mod say;
-mod sim_lists;
-mod sim_store;
-mod told;
+mod addresses;
+mod answers;
+mod directories;
+mod elements;
+mod lines;
+mod output;
+mod processors;
+mod replies;
+mod requests;
+mod test_aids;
+mod types;
 
 ghost use Prim.Native.Nat.{_<_, _≤_};
 ghost use lib.ListN.{length};
-use crate::protocol::Args;
-use crate::protocol::calls;
-use crate::say::Place;
-use crate::told::Told;
+use crate::answers::Answer;
+use crate::lines::Area;
+use crate::lines::Args;
+use crate::output::Pending;
 use libc::STDIN_FILENO;
 
-// The answer to a call. The bytes of its fields stand in `space`, the answer in `memory`, the simulated processor in `store`.
-fn call(a: Args, line: &[u8], space: &[u8], memory: &mut [u8], store: &mut [u8]) -> Told {
-    if a.call < calls::SIM {
-        return crate::calls_plain::answer(a, space, memory);
+// The answer to a call, whose line is this. The bytes of its fields stand in `space`, the answer in `memory`, the simulated processor in `store`.
+fn call(a: Args, line: &[u8], space: &[u8], memory: &mut [u8], store: &mut [u8]) -> Answer {
+    let word = text::field(line, 0);
+    let area = a.area;
+    match area {
+        Area::Build => crate::processors::build(a, line, space, memory, store),
+        Area::Processor => crate::processors::answer(a, word, space, memory, store),
+        Area::TestAid => crate::test_aids::answer(a, word, space, memory, store),
+        _ => without_processor(a, word, space, memory),
     }
-    if a.call == calls::SIM {
-        return crate::calls_sim::answer(a, line, space, memory, store);
+}
+
+// The calls that ask no processor.
+fn without_processor(a: Args, word: &[u8], space: &[u8], memory: &mut [u8]) -> Answer {
+    let area = a.area;
+    match area {
+        Area::Address => crate::addresses::answer(a, space, memory),
+        Area::Type => crate::types::answer(a, word, space, memory),
+        Area::Element => crate::elements::answer(a, word, space, memory),
+        _ => on_messages(a, word, space, memory),
     }
-    if a.call < calls::FILL {
-        return crate::calls_processor::answer(a, space, memory, store);
+}
+
+fn on_messages(a: Args, word: &[u8], space: &[u8], memory: &mut [u8]) -> Answer {
+    let area = a.area;
+    match area {
+        Area::Request => crate::requests::answer(a, word, space, memory),
+        Area::Reply => crate::replies::answer(a, word, space, memory),
+        Area::Directory => crate::directories::answer(a, word, space, memory),
+        _ => Answer::Error(crate::answers::CALL),
     }
-    crate::calls_store::answer(a, space, memory, store)
 }
 
 // Empty lines and lines that begin with `#` are echoed.
@@ -45,9 +60,9 @@ fn is_echoed(line: &[u8]) -> bool {
     line[0] == b'#'
 }
 
-fn echo(line: &[u8], out: &mut [u8], p: Place) -> Place {
-    let q = crate::say::plain(out, p, line);
-    crate::say::plain(out, q, b"\n")
+fn echo(line: &[u8], out: &mut [u8], p: Pending) -> Pending {
+    let q = crate::output::plain(out, p, line);
+    crate::output::plain(out, q, b"\n")
 }
 
 // The answer to a line that is no comment.
@@ -57,17 +72,21 @@ fn reply(
     memory: &mut [u8],
     store: &mut [u8],
     out: &mut [u8],
-    p: Place,
-) -> Place {
-    let a = crate::protocol::read(line, space);
+    p: Pending,
+) -> Pending {
+    let a = crate::lines::read(line, space);
     if a.why != 0 {
-        return crate::told::say(Told::Error(a.why), memory, out, p);
+        return crate::answers::say(Answer::Error(a.why), memory, out, p);
     }
-    if a.call == calls::DIR {
-        return crate::calls_directory::say_dir(a, space, out, p);
+    let area = a.area;
+    match area {
+        Area::Listing => crate::directories::say_dir(a, space, out, p),
+        _ => {
+            let n = text::within(a.start, line);
+            let answer = call(a, &line[n..], space, memory, store);
+            crate::answers::say(answer, memory, out, p)
+        }
     }
-    let told = call(a, line, space, memory, store);
-    crate::told::say(told, memory, out, p)
 }
 
 // The answer to a line, which is the first `kept` bytes; where it fills the memory that lines have, it was longer than a line may be.
@@ -78,10 +97,10 @@ fn answer_line(
     memory: &mut [u8],
     store: &mut [u8],
     out: &mut [u8],
-    p: Place,
-) -> Place {
+    p: Pending,
+) -> Pending {
     if line.len() <= kept {
-        return crate::told::say(Told::Error(crate::told::LINE), memory, out, p);
+        return crate::answers::say(Answer::Error(crate::answers::LINE), memory, out, p);
     }
     let n = text::within(kept, line);
     if is_echoed(&line[..n]) {
@@ -137,7 +156,7 @@ fn keep(line: &mut [u8], k: usize, b: u8) -> usize
 // How many bytes of a line wait for the rest of it, and what was said.
 struct State {
     kept: usize,
-    said: Place,
+    said: Pending,
 }
 
 // Answers a line that has ended.
@@ -148,7 +167,7 @@ fn ended(
     memory: &mut [u8],
     store: &mut [u8],
     out: &mut [u8],
-    p: Place,
+    p: Pending,
 ) -> State
     requires { ⌜ t .kept ≤ length (now line) ⌝ }
     ensures { λ r. ⌜ r .kept ≤ length (now (line .entry)) ⌝ }
@@ -216,7 +235,7 @@ fn turn(
         };
     }
     let t = answer_all(&input[..n], line, s, space, memory, store, out);
-    let q = crate::say::flush(out, t.said);
+    let q = crate::output::flush(out, t.said);
     Went {
         state: State {
             kept: t.kept,
@@ -239,7 +258,7 @@ fn finish(
         return;
     }
     let q = answer_line(line, s.kept, space, memory, store, out, s.said);
-    crate::say::flush(out, q);
+    crate::output::flush(out, q);
 }
 
 fn answer_input(
@@ -252,7 +271,7 @@ fn answer_input(
 ) {
     let mut s = State {
         kept: 0,
-        said: crate::say::start(),
+        said: crate::output::start(),
     };
     let mut turns = u64::MAX;
     while turns > 0 {

@@ -1,4 +1,4 @@
-pub mod Back
+pub mod DecimalBack
 pub mod Decimals
-pub mod Rows
+pub mod DecimalRows
 pub mod Signs

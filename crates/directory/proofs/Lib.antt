@@ -1,5 +1,5 @@
-pub mod Counting
-pub mod Laying
-pub mod Listing
+pub mod FirstPass
+pub mod SecondPass
+pub mod ListedFiles
 pub mod RowLaws
-pub mod Worked
+pub mod DirectoryRows

@@ -1,2 +1,2 @@
-pub mod Sizes
-pub mod Worked
+pub mod SizeIs
+pub mod SizeRows

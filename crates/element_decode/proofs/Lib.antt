@@ -1,3 +1,3 @@
-pub mod Reading
+pub mod DecodeAnswers
 pub mod RoundTrip
-pub mod Rows
+pub mod DecodeRows

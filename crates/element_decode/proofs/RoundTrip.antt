@@ -13,7 +13,7 @@ use Rattle.base.specs.Put.{put}
 use Rattle.base.proofs.Numbers.{low-length, read-back}
 use Rattle.base.proofs.Put.{put-first}
 use Rattle.element_whole.specs.Whole.{inRange, twos, signed}
-use Rattle.element_spec.specs.declared.kind.Kind.the-variants as kind
+use Rattle.element_spec.specs.declared.kind.ElementKind.the-variants as kind
 use Rattle.file_type.specs.declared.FileType.{FileType}
 use Rattle.element_spec.specs.Decode.{decodeAs, whole}
 

@@ -4,7 +4,7 @@ mod get;
 ghost use lib.ListN.{length};
 ghost use Rattle.element_spec.specs.Decode.{Reads, decoded};
 use element_spec::Element;
-use element_spec::kind::Kind;
+use element_spec::kind::ElementKind;
 use file_type::FileType;
 
 // Reads an element; text is written to the lent memory, which needs 82 bytes for it. A refusal changes nothing.
@@ -16,12 +16,12 @@ pub fn decode_element(t: FileType, element: &[u8], text: &mut [u8]) -> Element
     }
     let k = element_spec::kind::kind_of(t);
     match k {
-        Kind::Word => get::word(element),
-        Kind::Long => get::long(element),
-        Kind::Float => get::float(element),
-        Kind::Ascii => get::ascii(element, text),
-        Kind::Line => get::line(element, text),
-        Kind::Fields => get::fields(t, element),
-        Kind::Other => Element::Refused(20),
+        ElementKind::Word => get::word(element),
+        ElementKind::Long => get::long(element),
+        ElementKind::Float => get::float(element),
+        ElementKind::Ascii => get::ascii(element, text),
+        ElementKind::Line => get::line(element, text),
+        ElementKind::Fields => get::fields(t, element),
+        ElementKind::Other => Element::Refused(20),
     }
 }

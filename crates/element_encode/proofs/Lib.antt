@@ -1,1 +1,1 @@
-pub mod Setting
+pub mod EncodeAnswers

@@ -5,7 +5,7 @@ ghost use Rattle.element_spec.specs.Encode.{Stores, encoded};
 use element_spec::Stored;
 use element_spec::Value;
 use element_spec::kind;
-use element_spec::kind::Kind;
+use element_spec::kind::ElementKind;
 use file_type::FileType;
 
 // Sets an element from a value; `text` is the text of A and ST, or the name of the field. A refusal changes nothing.
@@ -17,12 +17,12 @@ pub fn encode_element(t: FileType, v: Value, text: &[u8], element: &mut [u8]) ->
     }
     let k = kind::kind_of(t);
     match k {
-        Kind::Word => set::word(v, element),
-        Kind::Long => set::long(v, element),
-        Kind::Float => set::float(v, element),
-        Kind::Ascii => set::ascii(v, text, element),
-        Kind::Line => set::line(v, text, element),
-        Kind::Fields => set::fields(t, v, text, element),
-        Kind::Other => Stored::Refused(20),
+        ElementKind::Word => set::word(v, element),
+        ElementKind::Long => set::long(v, element),
+        ElementKind::Float => set::float(v, element),
+        ElementKind::Ascii => set::ascii(v, text, element),
+        ElementKind::Line => set::line(v, text, element),
+        ElementKind::Fields => set::fields(t, v, text, element),
+        ElementKind::Other => Stored::Refused(20),
     }
 }

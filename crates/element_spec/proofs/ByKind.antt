@@ -9,16 +9,16 @@ use lib.ListN.{length}
 use Rattle.file_type.specs.declared.FileType.{FileType}
 use Rattle.file_type.specs.declared.FileType.the-variants.{O, I, S, B, T, C, R, N, F, ST, A, L, MG, PD, PLS}
 use Rattle.file_type.specs.Table.{row}
-use Rattle.element_spec.specs.declared.kind.Kind.{Kind}
-use Rattle.element_spec.specs.declared.kind.Kind.the-variants as kind
+use Rattle.element_spec.specs.declared.kind.ElementKind.{ElementKind}
+use Rattle.element_spec.specs.declared.kind.ElementKind.the-variants as kind
 use Rattle.element_spec.specs.declared.Stored.{Stored}
 use Rattle.element_spec.specs.declared.Stored.the-variants as stored
 use Rattle.element_spec.specs.declared.Value.{Value}
 use Rattle.element_spec.specs.Encode.{kindOf, encodeAs, encoded, Stores}
-use Rattle.element_spec.proofs.Setting.{no-store}
+use Rattle.element_spec.proofs.ElementStores.{no-store}
 
 -- the bytes that the values of a kind take
-abbrev pub sizeFor : Kind → ℕ
+abbrev pub sizeFor : ElementKind → ℕ
 sizeFor kind.Word = 2
 sizeFor kind.Long = 4
 sizeFor kind.Float = 4
@@ -44,8 +44,8 @@ size-least MG = lit≤ tt
 size-least PD = lit≤ tt
 size-least PLS = lit≤ tt
 
-pub room-for : (K : Kind) (t : FileType) {k : Kind} {s n : ℕ} → k ≡ kindOf t → k ≡ K → s ≡ row t .size → s ≤ n → sizeFor K ≤ n
-room-for K t {k} {s} {n} e f g h = subst (λ (x : Kind). sizeFor x ≤ n) (sym e ∙ f) (omega (arith, size-least t))
+pub room-for : (K : ElementKind) (t : FileType) {k : ElementKind} {s n : ℕ} → k ≡ kindOf t → k ≡ K → s ≡ row t .size → s ≤ n → sizeFor K ≤ n
+room-for K t {k} {s} {n} e f g h = subst (λ (x : ElementKind). sizeFor x ≤ n) (sym e ∙ f) (omega (arith, size-least t))
 
 -- ---- setting
 module _ (t : FileType) (v : Value) (text l : List ℕ) {s : ℕ} (g : s ≡ row t .size) where
@@ -53,13 +53,13 @@ module _ (t : FileType) (v : Value) (text l : List ℕ) {s : ℕ} (g : s ≡ row
   unfolding encoded
   set-short h = no-store 19 l (rw (lt-ltb (length l) (row t .size) (omega arith)))
 
-  by-kind : (K : Kind) {k : Kind} {r : Stored} {m : List ℕ} → s ≤ length l → k ≡ kindOf t → k ≡ K → Stores (encodeAs K t v text l) l r m → Stores (encoded t v text l) l r m
+  by-kind : (K : ElementKind) {k : ElementKind} {r : Stored} {m : List ℕ} → s ≤ length l → k ≡ kindOf t → k ≡ K → Stores (encodeAs K t v text l) l r m → Stores (encoded t v text l) l r m
   unfolding encoded
   by-kind K {k} {r} {m} h e f w =
-      rw (le-ltb (length l) (row t .size) (omega arith)) (subst (λ (x : Kind). Stores (encodeAs x t v text l) l r m) (sym f ∙ e) w)
+      rw (le-ltb (length l) (row t .size) (omega arith)) (subst (λ (x : ElementKind). Stores (encodeAs x t v text l) l r m) (sym f ∙ e) w)
 
-  pub set-other : {k : Kind} → s ≤ length l → k ≡ kindOf t → k ≡ kind.Other → Stores (encoded t v text l) l (stored.Refused 20) l
+  pub set-other : {k : ElementKind} → s ≤ length l → k ≡ kindOf t → k ≡ kind.Other → Stores (encoded t v text l) l (stored.Refused 20) l
   set-other h e f = by-kind kind.Other h e f (no-store 20 l refl)
 
-pub set-by : (K : Kind) (t : FileType) (v : Value) (text l : List ℕ) {s : ℕ} {k : Kind} {r : Stored} {m : List ℕ} → s ≡ row t .size → s ≤ length l → k ≡ kindOf t → k ≡ K → Stores (encodeAs K t v text l) l r m → Stores (encoded t v text l) l r m
+pub set-by : (K : ElementKind) (t : FileType) (v : Value) (text l : List ℕ) {s : ℕ} {k : ElementKind} {r : Stored} {m : List ℕ} → s ≡ row t .size → s ≤ length l → k ≡ kindOf t → k ≡ K → Stores (encodeAs K t v text l) l r m → Stores (encoded t v text l) l r m
 set-by K t v text l g h e f w = by-kind t v text l g K h e f w

@@ -1,3 +1,3 @@
 pub mod ByKind
-pub mod Rows
-pub mod Setting
+pub mod EncodeRows
+pub mod ElementStores

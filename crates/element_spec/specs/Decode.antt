@@ -8,8 +8,8 @@ use lib.IntN.{ℤ}
 use lib.ListN.{length, take, drop}
 use Rattle.base.specs.Numbers.{number}
 use Rattle.base.specs.Put.{put}
-use Rattle.element_spec.specs.declared.kind.Kind.{Kind}
-use Rattle.element_spec.specs.declared.kind.Kind.the-variants as kind
+use Rattle.element_spec.specs.declared.kind.ElementKind.{ElementKind}
+use Rattle.element_spec.specs.declared.kind.ElementKind.the-variants as kind
 use Rattle.element_spec.specs.Encode.{kindOf}
 use Rattle.file_type.specs.declared.FileType.{FileType}
 use Rattle.file_type.specs.Table.{row, bitNames}
@@ -39,7 +39,7 @@ wordAt at bytes = number (take 2 (drop at bytes))
 
 -- an element's value by its kind: numbers low byte first, a text's length held to 82, "T, C, R read as words 1, 2 and those bits; all words and longs
 -- read signed"; 20 where no kind of value suits
-abbrev pub decodeAs : Kind → FileType → List ℕ → ℕ → Says
+abbrev pub decodeAs : ElementKind → FileType → List ℕ → ℕ → Says
 decodeAs kind.Word t bytes room = whole (signed 0xFFFF (wordAt 0 bytes))
 decodeAs kind.Long t bytes room = whole (signed 0xFFFFFFFF (number (take 4 bytes)))
 decodeAs kind.Float t bytes room = float (number (take 4 bytes))

@@ -6,7 +6,7 @@ use mathlib.Core.List.{List, [], _∷_, _++_}
 use lib.Dec.{leb, ltb}
 use lib.IntN.{ℤ}
 use lib.ListN.{length, take, drop}
-use Rattle.base.specs.Masked.{mix, bitMask}
+use Rattle.base.specs.Masks.{mix, bitMask}
 use Rattle.base.specs.Numbers.{lowFirst, number}
 use Rattle.base.specs.Outcome.{Outcome, refused, lays, left}
 use Rattle.file_type.specs.declared.FileType.{FileType}
@@ -15,8 +15,8 @@ use Rattle.file_type.specs.declared.Field.{Field}
 use Rattle.file_type.specs.declared.Field.the-variants as field
 use Rattle.file_type.specs.Table.{row, ofField}
 use Rattle.element_text.specs.Text.{asciiText, stringText}
-use Rattle.element_spec.specs.declared.kind.Kind.{Kind}
-use Rattle.element_spec.specs.declared.kind.Kind.the-variants as kind
+use Rattle.element_spec.specs.declared.kind.ElementKind.{ElementKind}
+use Rattle.element_spec.specs.declared.kind.ElementKind.the-variants as kind
 use Rattle.element_spec.specs.declared.Stored.{Stored}
 use Rattle.element_spec.specs.declared.Stored.the-variants as stored
 use Rattle.element_spec.specs.declared.Value.{Value}
@@ -25,7 +25,7 @@ use Rattle.element_whole.specs.Whole.{inRange, twos, isZero}
 
 -- "A whole number suits O, I, S, B, N and L; float bits F; text A and ST; three whole numbers or one named field T, C and R."
 -- Nothing suits MG, PD and PLS.
-abbrev pub kindOf : FileType → Kind
+abbrev pub kindOf : FileType → ElementKind
 kindOf O = kind.Word
 kindOf I = kind.Word
 kindOf S = kind.Word
@@ -114,7 +114,7 @@ onFields value.Text f g = refused 20
 onFields (value.Words x y z) f g = f x y z
 onFields (value.Field z) f g = g z
 
-abbrev pub encodeAs : Kind → FileType → Value → List ℕ → List ℕ → Outcome
+abbrev pub encodeAs : ElementKind → FileType → Value → List ℕ → List ℕ → Outcome
 encodeAs kind.Word t v text old = onWhole v wordOf
 encodeAs kind.Long t v text old = onWhole v longOf
 encodeAs kind.Float t v text old = onFloat v floatOf

@@ -3,7 +3,7 @@ ghost use mathlib.Core.Path.{_≡_};
 ghost use Rattle.element_spec.specs.Encode.{kindOf};
 use file_type::FileType;
 
-pub enum Kind {
+pub enum ElementKind {
     Word,
     Long,
     Float,
@@ -13,24 +13,24 @@ pub enum Kind {
     Other,
 }
 
-pub fn kind_of(t: FileType) -> Kind
+pub fn kind_of(t: FileType) -> ElementKind
     ensures { λ r. ⌜ r ≡ kindOf t ⌝ }
 {
     match t {
-        FileType::O => Kind::Word,
-        FileType::I => Kind::Word,
-        FileType::S => Kind::Word,
-        FileType::B => Kind::Word,
-        FileType::T => Kind::Fields,
-        FileType::C => Kind::Fields,
-        FileType::R => Kind::Fields,
-        FileType::N => Kind::Word,
-        FileType::F => Kind::Float,
-        FileType::ST => Kind::Line,
-        FileType::A => Kind::Ascii,
-        FileType::L => Kind::Long,
-        FileType::MG => Kind::Other,
-        FileType::PD => Kind::Other,
-        FileType::PLS => Kind::Other,
+        FileType::O => ElementKind::Word,
+        FileType::I => ElementKind::Word,
+        FileType::S => ElementKind::Word,
+        FileType::B => ElementKind::Word,
+        FileType::T => ElementKind::Fields,
+        FileType::C => ElementKind::Fields,
+        FileType::R => ElementKind::Fields,
+        FileType::N => ElementKind::Word,
+        FileType::F => ElementKind::Float,
+        FileType::ST => ElementKind::Line,
+        FileType::A => ElementKind::Ascii,
+        FileType::L => ElementKind::Long,
+        FileType::MG => ElementKind::Other,
+        FileType::PD => ElementKind::Other,
+        FileType::PLS => ElementKind::Other,
     }
 }

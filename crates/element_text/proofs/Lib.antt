@@ -1,3 +1,3 @@
-pub mod Rows
+pub mod TextRows
 pub mod Swap
 pub mod Text

@@ -1,3 +1,3 @@
-pub mod Fields
+pub mod FieldNames
 pub mod Names
-pub mod Table
+pub mod FileTypes

@@ -14,7 +14,7 @@ use Rattle.file_type.specs.declared.FileType.{FileType}
 use Rattle.file_type.specs.declared.Known.the-variants as known
 use Rattle.file_type.specs.declared.Name.{Name}
 use Rattle.file_type.specs.Table.{row, all, Named, first, ofName}
-use Rattle.file_type.proofs.Fields.{name-bytes}
+use Rattle.file_type.proofs.FieldNames.{name-bytes}
 
 -- ---- a name in three bytes, of any length that it claims
 module _ (text : List ℕ) (len n : ℕ) (full : length text ≡ 3) (e : n ≡ min len 3) where

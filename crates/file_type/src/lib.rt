@@ -1,7 +1,9 @@
 // Data file types: names, PCCC type codes, element sizes.
 ghost use mathlib.Core.Path.{_≡_};
+ghost use Prim.Native.Nat.{_≤_};
 ghost use lib.ListN.{take};
 ghost use Rattle.base.specs.Chars.{spelled};
+ghost use Rattle.file_type.specs.Fields.{placeOf, lettersIn};
 ghost use Rattle.file_type.specs.Table.{row, Named, ofCode, ofName};
 
 pub enum FileType {
@@ -135,71 +137,37 @@ impl FileType {
         }
     }
 
+    // Its place in the tables of all types.
+    fn place(self) -> usize
+        ensures { λ r. ⌜ (r ≡ placeOf self) × (r ≤ 14) ⌝ }
+    {
+        match self {
+            FileType::O => 0,
+            FileType::I => 1,
+            FileType::S => 2,
+            FileType::B => 3,
+            FileType::T => 4,
+            FileType::C => 5,
+            FileType::R => 6,
+            FileType::N => 7,
+            FileType::F => 8,
+            FileType::ST => 9,
+            FileType::A => 10,
+            FileType::L => 11,
+            FileType::MG => 12,
+            FileType::PD => 13,
+            FileType::PLS => 14,
+        }
+    }
+
     // The name as the Rust spells it.
     pub fn name(self) -> Name
         ensures { λ r. ⌜ Named (row self .name) r ⌝ }
     {
-        match self {
-            FileType::O => Name {
-                text: [b'O', 0, 0],
-                len: 1,
-            },
-            FileType::I => Name {
-                text: [b'I', 0, 0],
-                len: 1,
-            },
-            FileType::S => Name {
-                text: [b'S', 0, 0],
-                len: 1,
-            },
-            FileType::B => Name {
-                text: [b'B', 0, 0],
-                len: 1,
-            },
-            FileType::T => Name {
-                text: [b'T', 0, 0],
-                len: 1,
-            },
-            FileType::C => Name {
-                text: [b'C', 0, 0],
-                len: 1,
-            },
-            FileType::R => Name {
-                text: [b'R', 0, 0],
-                len: 1,
-            },
-            FileType::N => Name {
-                text: [b'N', 0, 0],
-                len: 1,
-            },
-            FileType::F => Name {
-                text: [b'F', 0, 0],
-                len: 1,
-            },
-            FileType::ST => Name {
-                text: [b'S', b'T', 0],
-                len: 2,
-            },
-            FileType::A => Name {
-                text: [b'A', 0, 0],
-                len: 1,
-            },
-            FileType::L => Name {
-                text: [b'L', 0, 0],
-                len: 1,
-            },
-            FileType::MG => Name {
-                text: [b'M', b'G', 0],
-                len: 2,
-            },
-            FileType::PD => Name {
-                text: [b'P', b'D', 0],
-                len: 2,
-            },
-            FileType::PLS => Name {
-                text: [b'P', b'L', b'S'],
-                len: 3,
-            },
+        let text = NAMES[self.place()];
+        Name {
+            text,
+            len: letters(text),
         }
     }
 
@@ -236,6 +204,38 @@ const FILE_TYPES: [FileType; 15] = [
     FileType::PD,
     FileType::PLS,
 ];
+
+// Their names, with zeros behind them.
+const NAMES: [[u8; 3]; 15] = [
+    [b'O', 0, 0],
+    [b'I', 0, 0],
+    [b'S', 0, 0],
+    [b'B', 0, 0],
+    [b'T', 0, 0],
+    [b'C', 0, 0],
+    [b'R', 0, 0],
+    [b'N', 0, 0],
+    [b'F', 0, 0],
+    [b'S', b'T', 0],
+    [b'A', 0, 0],
+    [b'L', 0, 0],
+    [b'M', b'G', 0],
+    [b'P', b'D', 0],
+    [b'P', b'L', b'S'],
+];
+
+// How many bytes a name has before the zeros.
+fn letters(text: [u8; 3]) -> usize
+    ensures { λ r. ⌜ r ≡ lettersIn text ⌝ }
+{
+    if text[1] == 0 {
+        return 1;
+    }
+    if text[2] == 0 {
+        return 2;
+    }
+    3
+}
 
 // Does `s` spell this name? A name has at most its three bytes.
 pub fn is_name(n: Name, s: &[u8], any_case: bool) -> bool

@@ -1,1 +1,1 @@
-pub mod Elements
+pub mod ElementRecords

@@ -3,11 +3,11 @@ ghost use mathlib.Core.Path.{_≡_};
 ghost use lib.ListN.{length};
 ghost use Rattle.element_spec.specs.Decode.{decoded};
 ghost use Rattle.element_spec.specs.Encode.{encoded};
-ghost use Rattle.link_elements.specs.Elements.{lowHalf, misfitOf, valueOf, storedNumber, refusalOf, numbersOf, StoresInNumbers, ReadsInNumbers};
+ghost use Rattle.link_elements.specs.ElementRecords.{lowHalf, misfitOf, valueOf, storedNumber, refusalOf, numbersOf, StoresInNumbers, ReadsInNumbers};
 use element_spec::Element;
 use element_spec::Stored;
 use element_spec::Value;
-use element_spec::kind::Kind;
+use element_spec::kind::ElementKind;
 use file_type::FileType;
 
 const WHOLE: u8 = 0;
@@ -60,13 +60,13 @@ fn misfit(t: FileType) -> Value
 {
     let k = element_spec::kind::kind_of(t);
     match k {
-        Kind::Word => Value::Text,
-        Kind::Long => Value::Text,
-        Kind::Float => Value::Text,
-        Kind::Ascii => Value::Float(0),
-        Kind::Line => Value::Float(0),
-        Kind::Fields => Value::Text,
-        Kind::Other => Value::Text,
+        ElementKind::Word => Value::Text,
+        ElementKind::Long => Value::Text,
+        ElementKind::Float => Value::Text,
+        ElementKind::Ascii => Value::Float(0),
+        ElementKind::Line => Value::Float(0),
+        ElementKind::Fields => Value::Text,
+        ElementKind::Other => Value::Text,
     }
 }
 

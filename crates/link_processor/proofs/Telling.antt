@@ -10,7 +10,7 @@ use Rattle.processor_spec.specs.declared.Made.the-variants as made
 use Rattle.processor_spec.specs.Pccc.{Left, left}
 use Rattle.link_processor.specs.declared.SlcBuilt.{SlcBuilt}
 use Rattle.link_processor.specs.declared.SlcDone.{SlcDone}
-use Rattle.link_processor.specs.Answers.{answeredTo, doneOf, numbered, madeTo, builtOf, Finished}
+use Rattle.link_processor.specs.ProcessorRecords.{answeredTo, doneOf, numbered, madeTo, builtOf, Finished}
 
 pub done-refused : (d : Done) (n : ℕ) → d .answered ≡ answered.Refused n → answeredTo (d .slc) (answered.Refused n) ≡ doneOf d
 unfolding doneOf

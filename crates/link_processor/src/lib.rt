@@ -2,9 +2,9 @@
 // its answer in numbers.
 ghost use mathlib.Core.Path.{_≡_};
 ghost use Rattle.processor_build_spec.specs.Plans.{finishOf};
-ghost use Rattle.processor_refinement.specs.Calls.{respondOf, showOf};
+ghost use Rattle.processor_refinement.specs.CallBySurvey.{respondOf, showOf};
 ghost use Rattle.processor_spec.specs.Pccc.{left};
-ghost use Rattle.link_processor.specs.Answers.{doneOf, numbered, builtOf, Finished};
+ghost use Rattle.link_processor.specs.ProcessorRecords.{doneOf, numbered, builtOf, Finished};
 use processor_build_spec::Judged;
 use processor_query::Query;
 use processor_spec::Answered;
@@ -94,5 +94,5 @@ pub fn built_of(b: Built) -> SlcBuilt
 pub fn finish(j: Judged, text: &[u8], count: usize, memory: &mut [u8]) -> SlcBuilt
     ensures { λ r. ⌜ Finished (finishOf j (now (text .entry)) count (now (memory .entry))) r (now (memory .exit)) ⌝ }
 {
-    built_of(build_end::finish(j, text, count, memory))
+    built_of(processor_build::finish(j, text, count, memory))
 }

@@ -1,3 +1,3 @@
 pub mod OfKind
-pub mod Records
-pub mod Through
+pub mod RequestRecords
+pub mod RequestAnswers

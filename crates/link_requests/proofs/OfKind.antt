@@ -9,10 +9,10 @@ use Rattle.address_spec.specs.declared.Parsed.{Parsed}
 use Rattle.address_spec.specs.declared.Parsed.the-variants as parsed
 use Rattle.address_spec.specs.Spelling.{addressOf}
 use Rattle.request_spec.specs.declared.Request.the-variants as request
-use Rattle.request_spec.specs.declared.Value.the-variants as value
+use Rattle.request_spec.specs.declared.WriteValue.the-variants as value
 use Rattle.request_spec.specs.Request.{Asked, refused, requestOf, left, onAddress, bitAndCount}
-use Rattle.link_requests.specs.declared.kinds.Kind.{Kind}
-use Rattle.link_requests.specs.declared.kinds.Kind.the-variants as kind
+use Rattle.link_requests.specs.declared.kinds.WriteKind.{WriteKind}
+use Rattle.link_requests.specs.declared.kinds.WriteKind.the-variants as kind
 use Rattle.link_requests.specs.Kinds.{kindOf, unsuitedAddress, unsuited}
 
 module _ (k : ℕ) where

@@ -6,12 +6,12 @@ use lib.Dec.{eqb}
 use Rattle.address_spec.specs.declared.Address.{Address}
 use Rattle.address_spec.specs.Spelling.{addressOf}
 use Rattle.request_frame.specs.declared.Requestor.{Requestor}
-use Rattle.request_spec.specs.declared.Value.the-variants as value
+use Rattle.request_spec.specs.declared.WriteValue.the-variants as value
 use Rattle.request_spec.specs.Request.{Asked, refused, onAddress, bitAndCount, writing}
-use Rattle.link_requests.specs.declared.kinds.Kind.{Kind}
-use Rattle.link_requests.specs.declared.kinds.Kind.the-variants as kind
+use Rattle.link_requests.specs.declared.kinds.WriteKind.{WriteKind}
+use Rattle.link_requests.specs.declared.kinds.WriteKind.the-variants as kind
 
-unfoldable pub kindOf : ℕ → Kind
+unfoldable pub kindOf : ℕ → WriteKind
 kindOf k =
     cond (eqb k 0) (kind.Is value.Raw)
     (cond (eqb k 1) (kind.Is (value.Bool false))
@@ -26,6 +26,6 @@ abbrev pub unsuited : List ℕ → Asked
 unsuited tag = onAddress (addressOf tag) unsuitedAddress
 
 -- a write of a kind
-abbrev pub writingKind : Kind → List ℕ → List ℕ → Requestor → ℕ → List ℕ → Asked
+abbrev pub writingKind : WriteKind → List ℕ → List ℕ → Requestor → ℕ → List ℕ → Asked
 writingKind (kind.Is v) tag s q sequence out = writing tag v s q sequence out
 writingKind kind.Unknown tag s q sequence out = unsuited tag

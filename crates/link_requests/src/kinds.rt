@@ -4,31 +4,31 @@ ghost use Rattle.request_spec.specs.Request.{requestOf};
 ghost use Rattle.link_requests.specs.Kinds.{kindOf, unsuited as Kinds·unsuited};
 use address::Parsed;
 use request::Request;
-use request::Value;
+use request::WriteValue;
 
 // What a number says to write.
-pub enum Kind {
-    Is(Value),
+pub enum WriteKind {
+    Is(WriteValue),
     Unknown,
 }
 
 // Raw bytes, false, true and Latin-1 text are 0 to 3.
-pub fn kind_of(kind: u8) -> Kind
+pub fn kind_of(kind: u8) -> WriteKind
     ensures { λ r. ⌜ r ≡ kindOf kind ⌝ }
 {
     if kind == 0 {
-        return Kind::Is(Value::Raw);
+        return WriteKind::Is(WriteValue::Raw);
     }
     if kind == 1 {
-        return Kind::Is(Value::Bool(false));
+        return WriteKind::Is(WriteValue::Bool(false));
     }
     if kind == 2 {
-        return Kind::Is(Value::Bool(true));
+        return WriteKind::Is(WriteValue::Bool(true));
     }
     if kind == 3 {
-        return Kind::Is(Value::Text);
+        return WriteKind::Is(WriteValue::Text);
     }
-    Kind::Unknown
+    WriteKind::Unknown
 }
 
 // The answer to a write of a kind that there is not: it suits no address. Refused with 1 to 4.

@@ -1,8 +1,8 @@
 // Addresses and requests.
 ghost use mathlib.Core.Path.{_≡_};
-ghost use Rattle.address_spec.specs.Spelling.{present, orZero};
+ghost use Rattle.address_spec.specs.Spelling.{present};
 ghost use Rattle.link_types.specs.Types.{flag};
-ghost use Rattle.link_requests.specs.Requests.{noAddress, fullAddress, addressRecord, requestRecord};
+ghost use Rattle.link_requests.specs.RequestRecords.{noAddress, fullAddress, addressRecord, requestRecord};
 use address::Address;
 use address::Maybe;
 use address::Parsed;
@@ -58,15 +58,6 @@ fn is_there(n: Maybe) -> u8
     }
 }
 
-fn or_zero(n: Maybe) -> u16
-    ensures { λ r. ⌜ r ≡ orZero n ⌝ }
-{
-    match n {
-        Maybe::Missing => 0,
-        Maybe::Is(k) => k,
-    }
-}
-
 fn full_address(x: Address) -> SlcAddress
     ensures { λ r. ⌜ r ≡ fullAddress x ⌝ }
 {
@@ -79,9 +70,9 @@ fn full_address(x: Address) -> SlcAddress
         file_number: x.file_number,
         element_number: x.element_number,
         has_position: is_there(position),
-        position: or_zero(position),
+        position: address_spec::or_zero(position),
         has_sub_element: is_there(sub),
-        sub_element: or_zero(sub),
+        sub_element: address_spec::or_zero(sub),
         bit: x.bit as u8,
         element_count: x.element_count,
         kept: x.kept,

@@ -1,2 +1,2 @@
-pub mod Laying
-pub mod Through
+pub mod LaidTexts
+pub mod TextAnswers

@@ -1,7 +1,7 @@
 // The records of the C interface that count what was written to lent memory, and those of the other answers of replies and the client's file
 // directory. `refused` is 0, or the number of the question that was answered with no.
 ghost use mathlib.Core.Path.{_≡_};
-ghost use Rattle.link_texts.specs.Written.{swappedRecord, messageRecord, statusRecord, listedRecord, sizeRecord, partOf, written, Swaps};
+ghost use Rattle.link_texts.specs.WrittenRecords.{swappedRecord, messageRecord, statusRecord, listedRecord, sizeRecord, partOf, written, Swaps};
 use directory::Listed;
 use directory_size::DirectorySize;
 use element_text::Swapped;

@@ -2,26 +2,26 @@
 ghost use mathlib.Core.Path.{_≡_};
 ghost use Prim.Native.Nat.{_+_, _*_, min};
 ghost use lib.ListN.{drop};
-ghost use Rattle.parser_spec.specs.Numbers.{isDigit, digitValue, Run, most, numberOf};
+ghost use Rattle.parser_spec.specs.DecimalNumbers.{isDigit, digitValue, Run, most, numberOf};
 ghost use Rattle.parser_spec.specs.Parts.{atEnd, byte, letterByte, numeral, digits, digitsIn, countNumber, countOf, beforeByte};
-ghost use Rattle.parser.specs.Answers.{placeOf, numberAt, wordOf};
+ghost use Rattle.parser.specs.CursorAnswers.{placeOf, numberAt, wordOf};
 
 // A place in a text.
 pub struct Cur {
     pub i: usize,
 }
 
-pub enum Place {
+pub enum Eaten {
     No,
     At(Cur),
 }
 
-pub enum Number {
+pub enum ReadNumber {
     No,
     Got(u64, Cur),
 }
 
-pub enum Word {
+pub enum ReadWord {
     No,
     Got(u16, Cur),
 }
@@ -105,100 +105,100 @@ pub fn find(s: &[u8], v: u8) -> usize
 
 impl Cur {
     // This byte.
-    pub fn eat(self, s: &[u8], v: u8) -> Place
+    pub fn eat(self, s: &[u8], v: u8) -> Eaten
         ensures { λ r. ⌜ byte v (drop (self .i) (now (s .entry))) ≡ placeOf (now (s .entry)) r ⌝ }
     {
         let i = self.i;
         if s.len() <= i {
-            return Place::No;
+            return Eaten::No;
         }
         if s[i] == v {
-            return Place::At(Cur { i: i + 1 });
+            return Eaten::At(Cur { i: i + 1 });
         }
-        Place::No
+        Eaten::No
     }
 
     // This capital letter or its small one.
-    pub fn letter(self, s: &[u8], v: u8) -> Place
+    pub fn letter(self, s: &[u8], v: u8) -> Eaten
         ensures { λ r. ⌜ letterByte v (drop (self .i) (now (s .entry))) ≡ placeOf (now (s .entry)) r ⌝ }
     {
         let i = self.i;
         if s.len() <= i {
-            return Place::No;
+            return Eaten::No;
         }
         if base::letter(s[i], true) == v {
-            return Place::At(Cur { i: i + 1 });
+            return Eaten::At(Cur { i: i + 1 });
         }
-        Place::No
+        Eaten::No
     }
 
     // One digit or more, and no digit behind them.
-    pub fn numeral(self, s: &[u8]) -> Number
+    pub fn numeral(self, s: &[u8]) -> ReadNumber
         ensures { λ r. ⌜ numeral (drop (self .i) (now (s .entry))) ≡ numberAt (now (s .entry)) r ⌝ }
     {
         let i = self.i;
         let n = digit_run(s, i);
         if n == 0 {
-            return Number::No;
+            return ReadNumber::No;
         }
         let e = i + n;
-        Number::Got(number_of(&s[i..e]), Cur { i: e })
+        ReadNumber::Got(number_of(&s[i..e]), Cur { i: e })
     }
 
     // The same, with at most so many digits.
-    pub fn digits(self, s: &[u8], max: usize) -> Number
+    pub fn digits(self, s: &[u8], max: usize) -> ReadNumber
         ensures { λ r. ⌜ digits max (drop (self .i) (now (s .entry))) ≡ numberAt (now (s .entry)) r ⌝ }
     {
         let i = self.i;
         if max < digit_run(s, i) {
-            return Number::No;
+            return ReadNumber::No;
         }
         self.numeral(s)
     }
 
     // The same, from low to high.
-    pub fn digits_in(self, s: &[u8], max: usize, low: u16, high: u16) -> Word
+    pub fn digits_in(self, s: &[u8], max: usize, low: u16, high: u16) -> ReadWord
         ensures { λ r. ⌜ digitsIn max low high (drop (self .i) (now (s .entry))) ≡ wordOf (now (s .entry)) r ⌝ }
     {
-        let Number::Got(n, c) = self.digits(s, max) else {
-            return Word::No;
+        let ReadNumber::Got(n, c) = self.digits(s, max) else {
+            return ReadWord::No;
         };
         if n < (low as u64) {
-            return Word::No;
+            return ReadWord::No;
         }
         if (high as u64) < n {
-            return Word::No;
+            return ReadWord::No;
         }
-        Word::Got(n as u16, c)
+        ReadWord::Got(n as u16, c)
     }
 
     // The number of a count: any, or only 1 or 2.
-    fn count_number(self, s: &[u8], one_or_two: bool) -> Number
+    fn count_number(self, s: &[u8], one_or_two: bool) -> ReadNumber
         ensures { λ r. ⌜ countNumber «one_or_two» (drop (self .i) (now (s .entry))) ≡ numberAt (now (s .entry)) r ⌝ }
     {
         if !one_or_two {
             return self.numeral(s);
         }
-        let Word::Got(n, c) = self.digits_in(s, 1, 1, 2) else {
-            return Number::No;
+        let ReadWord::Got(n, c) = self.digits_in(s, 1, 1, 2) else {
+            return ReadNumber::No;
         };
-        Number::Got(n as u64, c)
+        ReadNumber::Got(n as u64, c)
     }
 
     // An optional `{n}`, 1 where it is absent.
-    pub fn count(self, s: &[u8], one_or_two: bool) -> Number
+    pub fn count(self, s: &[u8], one_or_two: bool) -> ReadNumber
         ensures { λ r. ⌜ countOf «one_or_two» (drop (self .i) (now (s .entry))) ≡ numberAt (now (s .entry)) r ⌝ }
     {
-        let Place::At(c) = self.eat(s, b'{') else {
-            return Number::Got(1, self);
+        let Eaten::At(c) = self.eat(s, b'{') else {
+            return ReadNumber::Got(1, self);
         };
-        let Number::Got(n, d) = c.count_number(s, one_or_two) else {
-            return Number::No;
+        let ReadNumber::Got(n, d) = c.count_number(s, one_or_two) else {
+            return ReadNumber::No;
         };
-        let Place::At(e) = d.eat(s, b'}') else {
-            return Number::No;
+        let Eaten::At(e) = d.eat(s, b'}') else {
+            return ReadNumber::No;
         };
-        Number::Got(n, e)
+        ReadNumber::Got(n, e)
     }
 
     // Nothing is left.

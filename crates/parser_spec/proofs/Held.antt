@@ -10,7 +10,7 @@ use borrow.Author.Tests.{eqb-true, leb-true, ltb-true}
 use lib.Dec.{eqb, leb, ltb}
 use lib.ListN.{take, drop}
 use Rattle.base.specs.Chars.{upper}
-use Rattle.parser_spec.specs.Numbers.{digitRun, decimal, most, numberOf}
+use Rattle.parser_spec.specs.DecimalNumbers.{digitRun, decimal, most, numberOf}
 use Rattle.parser_spec.specs.Parts.{Part, then, orElse, ended, whole, atEnd, here, oneByte, byte, letterByte, letter, numeral, digits, digitsIn, behind, afterByte, firstOf, countNumber, countOf}
 
 pub data Holds {X : Type 0} (P : X → List ℕ → Type 0) : Option (X × List ℕ) → Type 0 where

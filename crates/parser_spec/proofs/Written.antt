@@ -11,7 +11,7 @@ use lib.Dec.{eqb}
 use lib.ListN.{length, take, drop}
 use lib.Seq.{take-append-seam, drop-append-seam}
 use Rattle.base.specs.Chars.{upper}
-use Rattle.parser_spec.specs.Numbers.{isDigit, digitRun, numberOf}
+use Rattle.parser_spec.specs.DecimalNumbers.{isDigit, digitRun, numberOf}
 use Rattle.parser_spec.specs.Parts.{Part, then, orElse, ended, whole, atEnd, here, oneByte, byte, letterByte, letter, numeral, digits, digitsIn, afterByte, firstOf, countNumber, countOf}
 
 -- ---- one part behind another

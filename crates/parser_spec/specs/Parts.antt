@@ -7,7 +7,7 @@ use mathlib.Core.Bool.{Bool, true, false, _&&_, cond}
 use lib.Dec.{leb, ltb, eqb}
 use lib.ListN.{take, drop}
 use Rattle.base.specs.Chars.{upper}
-use Rattle.parser_spec.specs.Numbers.{digitRun, numberOf}
+use Rattle.parser_spec.specs.DecimalNumbers.{digitRun, numberOf}
 
 abbrev pub Part : Type 0 → Type 0
 Part A = List ℕ → Option (A × List ℕ)

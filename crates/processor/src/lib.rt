@@ -16,7 +16,7 @@ pub fn pccc(
 ) -> Done
     ensures { λ r. ⌜ Says slc (now (table .entry)) (now (memory .entry)) (now (log .entry)) (now (command .entry)) (now (reply .entry)) r (now (memory .exit)) (now (reply .exit)) ⌝ }
 {
-    let q = asked::asked(slc, command);
+    let q = processor_query::asked(slc, command);
     let s = processor_table::survey(table, slc.files, q.number);
     if q.directory {
         let d = processor_directory::directory(table, slc.files, q, s);

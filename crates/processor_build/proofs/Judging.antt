@@ -15,7 +15,7 @@ use Rattle.processor_spec.specs.Build.{Wanted, wantedOf, defaults, orDefaults, 
 use Rattle.processor_spec.specs.Plain.{entries, holds}
 use Rattle.processor_spec.specs.State.{knownCode, total, goodText, goodLog}
 use Rattle.processor_build_spec.specs.declared.Judged.{Judged}
-use Rattle.processor_build_files.specs.Numbers.{refusalNumber, filesRefused}
+use Rattle.processor_build_files.specs.ByNumber.{refusalNumber, filesRefused}
 use Rattle.processor_build_spec.specs.Plans.{refusedWith, judged, judgedOf, roomFor, listJudged, noRecord, narrowed, recordOf}
 
 -- ---- 13, of the text in its array

@@ -1,3 +1,3 @@
-pub mod Sizes
+pub mod ElementSizes
 pub mod Refusing
 pub mod ByNumber

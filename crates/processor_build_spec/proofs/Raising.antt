@@ -17,7 +17,7 @@ use Rattle.processor_spec.specs.declared.Built.{Built}
 use Rattle.processor_spec.specs.declared.FileRecord.{FileRecord}
 use Rattle.processor_spec.specs.Build.{Wanted, wantedOf, orDefaults, has, fileRefusal, Plan, planned, fits, logFits, orThen, buildRefusal, slcOf, raise, newOf, planOf, raised}
 use Rattle.processor_spec.specs.State.{every, elementSize, knownCode, goodRecord, endToEnd, total, goodText, goodTable}
-use Rattle.processor_spec.proofs.Building.{builtState, built-sound}
+use Rattle.processor_spec.proofs.NewSound.{builtState, built-sound}
 use Rattle.processor_spec.proofs.Files.{sound-table}
 use Rattle.processor_spec.proofs.Tests.{and-l, and-r}
 use Rattle.processor_build_spec.specs.declared.Judged.{Judged}

@@ -1,2 +1,2 @@
-pub mod Rows
-pub mod Elements
+pub mod RecordsByValue
+pub mod AccessByValue

@@ -14,7 +14,7 @@ ghost use lib.ListN.{length, replicate};
 ghost use Rattle.element_spec.specs.Decode.{Reads};
 ghost use Rattle.element_spec.specs.Encode.{Stores};
 ghost use Rattle.processor_spec.specs.Build.{newOf, planOf, raised};
-ghost use Rattle.processor_spec.specs.Elements.{readOf, setOf};
+ghost use Rattle.processor_spec.specs.ElementAccess.{readOf, setOf};
 ghost use Rattle.processor_spec.specs.Plain.{stateOf};
 ghost use Rattle.processor_build_spec.specs.Plans.{laidOf};
 ghost use Rattle.processor_table.specs.Survey.{noRecord, surveyOf};
@@ -34,7 +34,7 @@ fn laid(files: &[[u32; 3]], count: usize) -> [FileRecord; 256]
         start: 0,
         length: 0,
     }; 256];
-    let m = processor_table::lesser(count, 256);
+    let m = base::least(count, 256);
     let mut i: usize = 0;
     while i < m {
         rows[i] = processor_build::record_of(files, i);
@@ -55,14 +55,14 @@ pub fn new_on(
 {
     let j = processor_build::judge(files, text, log, count, 256, memory.len());
     let rows = laid(files, j.records);
-    let built = build_end::finish(j, text, count, memory);
+    let built = processor_build::finish(j, text, count, memory);
     Raised { rows, built }
 }
 
 fn survey_on(rows: [FileRecord; 256], n: usize, number: u16) -> Seen
     ensures { λ r. ⌜ r ≡ surveyOf rows n number ⌝ }
 {
-    let m = processor_table::lesser(n, 256);
+    let m = base::least(n, 256);
     let mut s = processor_table::begin(n, 256, number);
     let mut i: usize = 0;
     while i < m {
@@ -73,7 +73,7 @@ fn survey_on(rows: [FileRecord; 256], n: usize, number: u16) -> Seen
     processor_table::conclude(s)
 }
 
-// Reads an element, as `access::read` does.
+// Reads an element, as `processor_element::read` does.
 pub fn read_on(
     slc: Slc,
     rows: [FileRecord; 256],
@@ -88,7 +88,7 @@ pub fn read_on(
     processor_element_core::read_element(slc, s, w, text, log, memory)
 }
 
-// Sets an element, as `access::set` does.
+// Sets an element, as `processor_element::set` does.
 pub fn set_on(
     slc: Slc,
     rows: [FileRecord; 256],

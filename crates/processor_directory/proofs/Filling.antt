@@ -1,6 +1,6 @@
 -- A function that goes through the first n records of a lent table and changes an array in a local by a covered function that is lent it: a walk of the MIR that
 -- such a function has, over the keys of the functions that bound, begin and store, and the definitions that they meet. The array is lent by `&mut` anew in each
--- turn, for a lifetime that is made for the call (crate `lent`), and returned at the end.
+-- turn, for a lifetime that is made for the call (walk_lent), and returned at the end.
 --     function        the MIR.        Begin, Put, Fill     the clauses of the three functions
 --     Upto            where a turn begins: the index, the array, and that to go on from there gives what the whole gives
 --     fill-meets      the function meets `Fill`, where those that it calls meet theirs, and `right` says that the fold gives what the definition gives
@@ -47,7 +47,7 @@ use denote.Triple.Entry.{Vals, onEntry}
 use denote.Triple.Spec.{Meets, tripleOf}
 use denote.Triple.Walked.{says, Stays, stay-none, stay-none-slice, walkOf, goes-none, goes-none-slice, Walks, ends-at, walked, walk-meets}
 use denote.Exit.{yes}
-use Rattle.processor_table.specs.Steps.{folded}
+use Rattle.processor_table.specs.SurveySteps.{folded}
 use Rattle.processor_table.specs.Survey.{noRecord}
 use Rattle.processor_spec.specs.declared.FileRecord.{FileRecord}
 use Rattle.processor_query.specs.declared.Query.{Query}
@@ -58,7 +58,7 @@ use Rattle.processor_query.proofs.Query as Q
 use Rattle.processor_query.proofs.Query.Laws as Q′
 use Rattle.processor_table.proofs.Seen as N
 use Rattle.processor_table.proofs.Seen.Laws as N′
-use Rattle.processor_table.proofs.Surveying.{Bound, Bounds, bound-ended, sees, at-end, fits-at, fits-next, nearer, below, lesser-le}
+use Rattle.processor_table.proofs.Surveying.{Bound, Bounds, bound-ended, sees, at-end, fits-at, fits-next, nearer, below, least-le}
 use Rattle.walk_lent.proofs.Lent.{at-name, Handed, Returned, call-lent, lies-in, lies-out}
 use Rattle.processor_directory.proofs.begin as begin′
 use Rattle.processor_directory.proofs.store as store′
@@ -311,13 +311,13 @@ module _ (bg : BeginDef) (put : PutDef) (def : FillDef) (right : Fits bg put def
         forget ! 3 refl $ forget ! 5 refl $ forget ! 7 refl $ forget ! 9 refl $ forget ! 11 refl $ forget ! 13 refl $ move ! (1 ∷ 2 ∷ 0 ∷ []) $ again ! Nearer At t (next t l g e) (nearer k (t .i) l))))))
       where
         in-table : t .i < h
-        in-table = below (t .i) k h l (lesser-le n h)
+        in-table = below (t .i) k h l (least-le n h)
 
         place-fits : t .i * 8 < 2 ^ 64
-        place-fits = fits-at h (t .i) k (p .0 .1 .1) l (lesser-le n h)
+        place-fits = fits-at h (t .i) k (p .0 .1 .1) l (least-le n h)
 
         next-fits : t .i + 1 < 2 ^ 64
-        next-fits = fits-next h (t .i) k (p .0 .1 .0) l (lesser-le n h)
+        next-fits = fits-next h (t .i) k (p .0 .1 .0) l (least-le n h)
 
     -- the turn that leaves the loop, and the rest of the body
     ends : (t : U) → k ≤ t .i → ltb (t .i) k ≡ false → Sq W (At t) (runs C Λ En (turn key) (anyQ (Turned t)))

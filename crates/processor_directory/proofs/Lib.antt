@@ -1,2 +1,4 @@
 pub mod Filling
-pub mod Right
+pub mod DirectoryIs
+pub mod Storing
+pub mod DirectoryFilled

@@ -1,13 +1,13 @@
 -- The directory that a command asks for, as it is filled record by record. Of sound records, laid out by the processor's family, it is the
--- model's directory with zeros behind it: `proofs/Right.antt`.
+-- directory of processor_spec with zeros behind it: `proofs/DirectoryIs.antt`.
 use Prim.Native.Nat.{ℕ}
 use mathlib.Core.List.{List}
 use lib.ListN.{take}
 use Rattle.processor_spec.specs.declared.FileRecord.{FileRecord}
 use Rattle.processor_query.specs.declared.Query.{Query}
 use Rattle.processor_table.specs.declared.Seen.{Seen}
-use Rattle.processor_table.specs.Steps.{folded}
-use Rattle.rows.specs.Rows.{blankOf, storedRow}
+use Rattle.processor_table.specs.SurveySteps.{folded}
+use Rattle.processor_directory.specs.StoredRows.{blankOf, storedRow}
 
 abbrev pub beginOf : Query → Seen → List ℕ
 beginOf q s = blankOf (q .layout .first) (q .layout .row) (s .next)

@@ -1,4 +1,6 @@
 // The file directory that a command asks for: an array of 2,793 zeros, by value, with the rows of a table's first records stored over it.
+mod rows;
+
 use processor_query::Query;
 use processor_spec::FileRecord;
 use processor_table::Seen;
@@ -21,7 +23,7 @@ fn store(d: &mut [u8; 2793], r: FileRecord, q: Query)
 pub fn directory(table: &[FileRecord], n: usize, q: Query, s: Seen) -> [u8; 2793]
     ensures { λ r. ⌜ r ≡ directoryOf (now (table .entry)) n q s ⌝ }
 {
-    let m = processor_table::lesser(n, table.len());
+    let m = base::least(n, table.len());
     let mut d = begin(q, s);
     let mut i: usize = 0;
     while i < m {

@@ -50,7 +50,7 @@ use Rattle.processor_table.specs.Survey.{surveyOf}
 use Rattle.processor_table.proofs.Seen as N
 use Rattle.processor_table.proofs.Seen.Laws as N′
 use Rattle.processor_table.proofs.Surveying.{State, Fold, ended as fold-ended}
-use Rattle.processor_walks.proofs.Asking.{Surveys, seen, slcv, seenv}
+use Rattle.processor_walks.proofs.Callees.{Surveys, seen, slcv, seenv}
 
 abbrev R : RattleType
 R = T.the-row

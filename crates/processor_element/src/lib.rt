@@ -8,7 +8,7 @@ use processor_spec::Slc;
 ghost use lib.ListN.{length};
 ghost use Rattle.element_spec.specs.Decode.{Reads};
 ghost use Rattle.element_spec.specs.Encode.{Stores};
-ghost use Rattle.processor_spec.specs.Elements.{readOf, setOf};
+ghost use Rattle.processor_spec.specs.ElementAccess.{readOf, setOf};
 ghost use Rattle.processor_spec.specs.Plain.{stateOf};
 
 // Reads an element; text is written to the lent memory. 16, 19 or 24 where it is refused, which changes nothing.

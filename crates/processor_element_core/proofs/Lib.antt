@@ -1,3 +1,3 @@
-pub mod Places
-pub mod Accesses
-pub mod Right
+pub mod ElementPlaces
+pub mod ReadAndSet
+pub mod AccessIs

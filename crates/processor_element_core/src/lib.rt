@@ -4,11 +4,13 @@ ghost use Prim.Native.Nat.{_≤_};
 ghost use lib.ListN.{length};
 ghost use Rattle.element_spec.specs.Decode.{Reads};
 ghost use Rattle.element_spec.specs.Encode.{Stores};
-ghost use Rattle.processor_element_core.specs.Access.{placeOf, elementBy, readBy, setHere, setBy};
+ghost use Rattle.processor_locate.specs.Locate.{placeOf};
+ghost use Rattle.processor_element_core.specs.AccessBySurvey.{elementBy, readBy, setHere, setBy};
 use element_spec::Element;
 use element_spec::Stored;
 use element_spec::Value;
 use file_type::FileType;
+use processor_locate::Located;
 use processor_spec::Slc;
 use processor_table::Seen;
 
@@ -27,12 +29,6 @@ pub struct Setting {
     pub value: Value,
 }
 
-// Where an element begins in the data memory.
-enum Place {
-    No,
-    At(usize),
-}
-
 fn wide(x: u16) -> usize
     ensures { λ r. ⌜ (r ≡ x) × (r ≤ 65535) ⌝ }
 {
@@ -40,21 +36,21 @@ fn wide(x: u16) -> usize
 }
 
 // 19: the file that was found, of the given type, and as many elements as its length holds.
-fn locate(s: Seen, t: FileType, element: usize) -> Place
+fn locate(s: Seen, t: FileType, element: usize) -> Located
     ensures { λ r. ⌜ placeOf r ≡ elementBy s t element ⌝ }
 {
     let r = s.found;
     if !s.hit {
-        return Place::No;
+        return Located::No;
     }
     if r.code != t.code() {
-        return Place::No;
+        return Located::No;
     }
     let size = t.element_size();
     if wide(r.length) / size <= element {
-        return Place::No;
+        return Located::No;
     }
-    Place::At(wide(r.start) + element * size)
+    Located::At(wide(r.start) + element * size)
 }
 
 // Reads an element; text is written to the lent memory, which needs 82 bytes for it. A refusal changes nothing.
@@ -72,7 +68,7 @@ pub fn read_element(
         return Element::Refused(16);
     }
     let t = w.file_type;
-    let Place::At(at) = locate(s, t, w.element) else {
+    let Located::At(at) = locate(s, t, w.element) else {
         return Element::Refused(19);
     };
     element_decode::decode_element(
@@ -97,7 +93,7 @@ pub fn set_element(
         return Stored::Refused(16);
     }
     let t = w.file_type;
-    let Place::At(at) = locate(s, t, w.element) else {
+    let Located::At(at) = locate(s, t, w.element) else {
         return Stored::Refused(19);
     };
     let v = w.value;

@@ -7,8 +7,8 @@ use Rattle.processor_spec.specs.declared.FileRecord.{FileRecord}
 use Rattle.processor_spec.specs.Files.{placeIn}
 use Rattle.processor_query.specs.declared.Query.{Query}
 use Rattle.processor_table.specs.declared.Seen.{Seen}
-use Rattle.processor_locate.specs.declared.Place.{Place}
-use Rattle.processor_locate.specs.declared.Place.the-variants as place
+use Rattle.processor_locate.specs.declared.Located.{Located}
+use Rattle.processor_locate.specs.declared.Located.the-variants as place
 
 -- the record that the survey found
 abbrev pub foundBy : Seen → Option FileRecord
@@ -17,6 +17,6 @@ foundBy s = cond (s .hit) (some (s .found)) none
 unfoldable pub locateBy : Seen → Query → Option ℕ
 locateBy s q = placeIn (foundBy s) (q .code) (q .element) (q .sub) (q .size)
 
-abbrev pub placeOf : Place → Option ℕ
+abbrev pub placeOf : Located → Option ℕ
 placeOf place.No = none
 placeOf (place.At at) = some at

@@ -11,7 +11,7 @@ ghost use Rattle.processor_spec.specs.State.{simulatedSize, elementSize};
 ghost use Rattle.processor_locate.specs.Locate.{locateBy, placeOf};
 
 // Where an access begins in the data memory.
-pub enum Place {
+pub enum Located {
     No,
     At(usize),
 }
@@ -35,21 +35,21 @@ fn element_size(code: u8) -> usize
 }
 
 // The file must exist with that type, and element × element size + 2 × last address + size must be within its length.
-pub fn locate(s: Seen, q: Query) -> Place
+pub fn locate(s: Seen, q: Query) -> Located
     ensures { λ r. ⌜ placeOf r ≡ locateBy s q ⌝ }
 {
     let r = s.found;
     if !s.hit {
-        return Place::No;
+        return Located::No;
     }
     if r.code != q.code {
-        return Place::No;
+        return Located::No;
     }
     let offset = (q.element as usize) * element_size(r.code) + 2 * (q.sub as usize);
     if (r.length as usize) < offset + (q.size as usize) {
-        return Place::No;
+        return Located::No;
     }
-    Place::At((r.start as usize) + offset)
+    Located::At((r.start as usize) + offset)
 }
 
 // So many bytes from a place on, or those that are there.

@@ -10,7 +10,7 @@ use borrow.Author.Tests.{leb-true, leb-false}
 use lib.Dec.{leb}
 use lib.ListN.{length, getD, take, drop, set, length-take, length-drop, drop-of-length-le}
 use lib.Seq.{drop-cons, length-take-le, take-all, take-nil}
-use Rattle.base.specs.Masked.{mix}
+use Rattle.base.specs.Masks.{mix}
 use Rattle.base.specs.Numbers.{number}
 use Rattle.base.specs.Put.{put}
 use Rattle.base.proofs.Parts.{drop-next}

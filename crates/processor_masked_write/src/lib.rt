@@ -3,7 +3,7 @@ ghost use mathlib.Core.Path.{_≡_};
 ghost use Prim.Native.Nat.{_+_, _≤_, _<_};
 ghost use mathlib.Core.List.{[], _∷_};
 ghost use lib.ListN.{length};
-ghost use Rattle.base.specs.Masked.{mix};
+ghost use Rattle.base.specs.Masks.{mix};
 ghost use Rattle.base.specs.Numbers.{number};
 ghost use Rattle.processor_masked_write.specs.Written.{written};
 

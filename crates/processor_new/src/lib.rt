@@ -9,7 +9,7 @@ ghost use Rattle.processor_build_spec.specs.Plans.{laidOf};
 pub fn lay(table: &mut [FileRecord], files: &[[u32; 3]], count: usize)
     ensures { λ _. ⌜ now (table .exit) ≡ laidOf (now (files .entry)) count (now (table .entry)) ⌝ }
 {
-    let m = processor_table::lesser(count, table.len());
+    let m = base::least(count, table.len());
     let mut i: usize = 0;
     while i < m {
         table[i] = processor_build::record_of(files, i);
@@ -31,5 +31,5 @@ pub fn new(
 {
     let j = processor_build::judge(files, text, log, count, table.len(), memory.len());
     lay(table, files, j.records);
-    build_end::finish(j, text, count, memory)
+    processor_build::finish(j, text, count, memory)
 }

@@ -1,3 +1,3 @@
-pub mod Reading
+pub mod HeaderReader
 pub mod Taking
 pub mod Taken

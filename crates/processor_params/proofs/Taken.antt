@@ -4,12 +4,12 @@ use denote.Enum.Laws as EL
 use denote.Steps.{only}
 use denote.Struct.Laws as LL
 use Rattle.processor_params.proofs.Taking.{Kind}
-use Rattle.processor_params.proofs.Byte as B
-use Rattle.processor_params.proofs.Byte.Laws as B′
+use Rattle.processor_params.proofs.TakenByte as B
+use Rattle.processor_params.proofs.TakenByte.Laws as B′
 use Rattle.processor_params.proofs.ByteStep as BS
 use Rattle.processor_params.proofs.ByteStep.Laws as BS′
-use Rattle.processor_params.proofs.Word as D
-use Rattle.processor_params.proofs.Word.Laws as D′
+use Rattle.processor_params.proofs.TakenWord as D
+use Rattle.processor_params.proofs.TakenWord.Laws as D′
 use Rattle.processor_params.proofs.WordStep as VS
 use Rattle.processor_params.proofs.WordStep.Laws as VS′
 

@@ -5,10 +5,10 @@ use mathlib.Core.List.{List}
 use mathlib.Core.Option.{Option, none, some}
 use Rattle.processor_spec.specs.Params.{header}
 use Rattle.processor_spec.specs.Params as model
-use Rattle.processor_params.specs.declared.Byte.{Byte}
-use Rattle.processor_params.specs.declared.Byte.the-variants as byte
-use Rattle.processor_params.specs.declared.Word.{Word}
-use Rattle.processor_params.specs.declared.Word.the-variants as word
+use Rattle.processor_params.specs.declared.TakenByte.{TakenByte}
+use Rattle.processor_params.specs.declared.TakenByte.the-variants as byte
+use Rattle.processor_params.specs.declared.TakenWord.{TakenWord}
+use Rattle.processor_params.specs.declared.TakenWord.the-variants as word
 use Rattle.processor_params.specs.declared.Header.{Header}
 use Rattle.processor_params.specs.Take.{placeOf}
 
@@ -31,7 +31,7 @@ unfoldable pub headerOf : List ℕ → Header
 headerOf s = headerBy s (header s)
 
 -- the same of what was taken part by part: all of it is there, or there is no header
-unfoldable pub gathered : Byte → Word → Byte → Word → ℕ → Header
+unfoldable pub gathered : TakenByte → TakenWord → TakenByte → TakenWord → ℕ → Header
 gathered (byte.Value size) (word.Value file) (byte.Value code) (word.Value element) next = record {
   whole = true;
   size = size;

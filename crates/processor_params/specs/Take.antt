@@ -6,11 +6,11 @@ use mathlib.Core.Option.{Option, none, some}
 use lib.ListN.{length, drop}
 use Rattle.processor_spec.specs.Params.{numberOf, address}
 use Rattle.processor_params.specs.declared.Params.{Params}
-use Rattle.processor_params.specs.declared.Byte.{Byte}
-use Rattle.processor_params.specs.declared.Byte.the-variants as byte
+use Rattle.processor_params.specs.declared.TakenByte.{TakenByte}
+use Rattle.processor_params.specs.declared.TakenByte.the-variants as byte
 use Rattle.processor_params.specs.declared.ByteStep.{ByteStep}
-use Rattle.processor_params.specs.declared.Word.{Word}
-use Rattle.processor_params.specs.declared.Word.the-variants as word
+use Rattle.processor_params.specs.declared.TakenWord.{TakenWord}
+use Rattle.processor_params.specs.declared.TakenWord.the-variants as word
 use Rattle.processor_params.specs.declared.WordStep.{WordStep}
 
 -- the place where so much is left of the bytes
@@ -34,8 +34,8 @@ unfoldable pub addressAt : List ℕ → ℕ → WordStep
 addressAt s at = wordStep s at (address (drop at s))
 
 -- what a take answered, and where it left the reader
-abbrev pub tookByte : Byte → Params → ByteStep
+abbrev pub tookByte : TakenByte → Params → ByteStep
 tookByte r p = record { got = r; next = p .pos }
 
-abbrev pub tookWord : Word → Params → WordStep
+abbrev pub tookWord : TakenWord → Params → WordStep
 tookWord r p = record { got = r; next = p .pos }

@@ -9,25 +9,25 @@ pub struct Params {
 }
 
 // A byte, where one was left.
-pub enum Byte {
+pub enum TakenByte {
     Value(u8),
     Missing,
 }
 
 // An address, where a whole one was left.
-pub enum Word {
+pub enum TakenWord {
     Value(u16),
     Missing,
 }
 
 // What stands at a place, and the place behind it; where nothing is left, the place itself.
 pub struct ByteStep {
-    pub got: Byte,
+    pub got: TakenByte,
     pub next: usize,
 }
 
 pub struct WordStep {
-    pub got: Word,
+    pub got: TakenWord,
     pub next: usize,
 }
 
@@ -46,12 +46,12 @@ pub fn byte_at(bytes: &[u8], pos: usize) -> ByteStep
 {
     if bytes.len() <= pos {
         return ByteStep {
-            got: Byte::Missing,
+            got: TakenByte::Missing,
             next: pos,
         };
     }
     ByteStep {
-        got: Byte::Value(bytes[pos]),
+        got: TakenByte::Value(bytes[pos]),
         next: pos + 1,
     }
 }
@@ -67,31 +67,31 @@ pub fn address_at(bytes: &[u8], pos: usize) -> WordStep
 {
     if bytes.len() <= pos {
         return WordStep {
-            got: Word::Missing,
+            got: TakenWord::Missing,
             next: pos,
         };
     }
     let b = bytes[pos];
     if b != 0xFF {
         return WordStep {
-            got: Word::Value(wide(b)),
+            got: TakenWord::Value(wide(b)),
             next: pos + 1,
         };
     }
     if bytes.len() - pos < 3 {
         return WordStep {
-            got: Word::Missing,
+            got: TakenWord::Missing,
             next: pos,
         };
     }
     WordStep {
-        got: Word::Value(base::word_at(bytes, pos + 1)),
+        got: TakenWord::Value(base::word_at(bytes, pos + 1)),
         next: pos + 3,
     }
 }
 
 // Takes a byte: the place moves behind it.
-pub fn take_byte(p: &mut Params, bytes: &[u8]) -> Byte
+pub fn take_byte(p: &mut Params, bytes: &[u8]) -> TakenByte
     ensures { λ r. ⌜ tookByte r (now (p .exit)) ≡ byteAt (now (bytes .entry)) (now (p .entry) .pos) ⌝ }
 {
     let pos = p.pos;
@@ -101,7 +101,7 @@ pub fn take_byte(p: &mut Params, bytes: &[u8]) -> Byte
 }
 
 // Takes an address: the place moves behind it.
-pub fn take_address(p: &mut Params, bytes: &[u8]) -> Word
+pub fn take_address(p: &mut Params, bytes: &[u8]) -> TakenWord
     ensures { λ r. ⌜ tookWord r (now (p .exit)) ≡ addressAt (now (bytes .entry)) (now (p .entry) .pos) ⌝ }
 {
     let pos = p.pos;
@@ -124,19 +124,25 @@ fn no_header() -> Header
 }
 
 // What was taken, put together, with the place behind it.
-fn header_of(size: Byte, file: Word, code: Byte, element: Word, next: usize) -> Header
+fn header_of(
+    size: TakenByte,
+    file: TakenWord,
+    code: TakenByte,
+    element: TakenWord,
+    next: usize,
+) -> Header
     ensures { λ r. ⌜ r ≡ gathered size file code element next ⌝ }
 {
-    let Byte::Value(size) = size else {
+    let TakenByte::Value(size) = size else {
         return no_header();
     };
-    let Word::Value(file) = file else {
+    let TakenWord::Value(file) = file else {
         return no_header();
     };
-    let Byte::Value(code) = code else {
+    let TakenByte::Value(code) = code else {
         return no_header();
     };
-    let Word::Value(element) = element else {
+    let TakenWord::Value(element) = element else {
         return no_header();
     };
     Header {

@@ -1,4 +1,6 @@
 pub mod Family
 pub mod Behind
-pub mod Places
-pub mod Asking
+pub mod WordSteps
+pub mod FunctionQuery
+pub mod FunctionCodes
+pub mod QueryOf

@@ -1,4 +1,4 @@
--- What a command says, by the command and the type text alone (document 01, "What the processor does"): the questions of the model's `ask` that
+-- What a command says, by the command and the type text alone (document 01, "What the processor does"): the questions of `ask` in processor_spec that
 -- don't concern the file table, as plain data.
 use Prim.Native.Nat.{ℕ}
 use mathlib.Core.Bool.{true, false, _&&_, cond}

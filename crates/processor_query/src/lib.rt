@@ -1,6 +1,8 @@
-// What a command says, by the bytes behind its frame and the type text alone.
+// What a command says, read once, by its bytes and the type text alone.
+mod functions;
+
 use processor_params::Header;
-use processor_params::Word;
+use processor_params::TakenWord;
 use processor_params::WordStep;
 use processor_spec::Slc;
 ghost use mathlib.Core.Path.{_≡_};
@@ -9,7 +11,7 @@ ghost use lib.ListN.{length, take, drop};
 ghost use Rattle.processor_spec.specs.Params.{lastAddress, maskWord, header as Params·header};
 ghost use Rattle.directory_sys0.specs.Families.{sys0 as Families·sys0};
 ghost use Rattle.processor_params.specs.Take.{wordStep};
-ghost use Rattle.processor_query.specs.Query.{headerIn, plainly, orBad, layoutOf, directoryQuery, accessQuery, fileQuery, functionQuery};
+ghost use Rattle.processor_query.specs.Query.{headerIn, plainly, orBad, layoutOf, directoryQuery, accessQuery, fileQuery, functionQuery, queryOf};
 
 // What is wanted: nothing that is legal (status 10), nothing that can be had (status F0, extended 06), the diagnostic status, the oldest datalog
 // entry, the directory, or bytes of a file.
@@ -54,7 +56,7 @@ pub struct Query {
 }
 
 // A query that tells of no file.
-pub fn plain(wants: Wants) -> Query
+fn plain(wants: Wants) -> Query
     ensures { λ r. ⌜ r ≡ plainly wants ⌝ }
 {
     let layout = Layout {
@@ -85,7 +87,7 @@ fn last_address(function: u8, s: &[u8], at: usize) -> WordStep
 {
     if function == 0xA1 {
         return WordStep {
-            got: Word::Value(0),
+            got: TakenWord::Value(0),
             next: at,
         };
     }
@@ -99,18 +101,18 @@ fn mask_word(function: u8, s: &[u8], at: usize) -> WordStep
 {
     if function != 0xAB {
         return WordStep {
-            got: Word::Value(0xFFFF),
+            got: TakenWord::Value(0xFFFF),
             next: at,
         };
     }
     if s.len() - at < 2 {
         return WordStep {
-            got: Word::Missing,
+            got: TakenWord::Missing,
             next: at,
         };
     }
     WordStep {
-        got: Word::Value(base::word_at(s, at)),
+        got: TakenWord::Value(base::word_at(s, at)),
         next: at + 2,
     }
 }
@@ -146,12 +148,12 @@ fn file_query(function: u8, h: Header, s: &[u8]) -> Query
 {
     let a = last_address(function, s, h.next);
     let got = a.got;
-    let Word::Value(sub) = got else {
+    let TakenWord::Value(sub) = got else {
         return plain(Wants::Bad);
     };
     let m = mask_word(function, s, a.next);
     let masked = m.got;
-    let Word::Value(mask) = masked else {
+    let TakenWord::Value(mask) = masked else {
         return plain(Wants::Bad);
     };
     if !functions::writes(function) {
@@ -198,7 +200,7 @@ fn directory_query(slc: Slc, h: Header) -> Query
 }
 
 // CMD 0x0F: the questions in their order.
-pub fn function_query(slc: Slc, function: u8, s: &[u8]) -> Query
+fn function_query(slc: Slc, function: u8, s: &[u8]) -> Query
     ensures { λ r. ⌜ r ≡ functionQuery (take (slc .«type_len») (slc .«type_text»)) function (now (s .entry)) (Params·header (now (s .entry))) ⌝ }
 {
     let h = processor_params::read_header(s);
@@ -215,4 +217,25 @@ pub fn function_query(slc: Slc, function: u8, s: &[u8]) -> Query
         return plain(Wants::Entry);
     }
     file_query(function, h, s)
+}
+
+// What a command says. The bytes behind the function byte are handed on as a part.
+pub fn asked(slc: Slc, command: &[u8]) -> Query
+    ensures { λ r. ⌜ r ≡ queryOf slc (now (command .entry)) ⌝ }
+{
+    let n = processor_frame::id_len(command);
+    if command.len() < n + 5 {
+        return plain(Wants::Illegal);
+    }
+    let function = command[n + 4];
+    if command[n] == 0x0F {
+        return function_query(slc, function, &command[n + 5..]);
+    }
+    if command[n] != 0x06 {
+        return plain(Wants::Illegal);
+    }
+    if function != 0x03 {
+        return plain(Wants::Illegal);
+    }
+    plain(Wants::Diagnostic)
 }

@@ -1,3 +1,3 @@
 pub mod Replying
 pub mod Questions
-pub mod Right
+pub mod Refines

@@ -16,7 +16,7 @@ use Rattle.processor_spec.specs.Step.{Step, refuse}
 use Rattle.processor_soundness.specs.Sound.{goodLogBy, soundBy}
 use Rattle.processor_soundness.proofs.Surveyed.{log-good as log-of}
 use Rattle.processor_table.specs.declared.Seen.{Seen}
-use Rattle.processor_refinement.specs.Calls.{firstNo, questionOf, questioned}
+use Rattle.processor_refinement.specs.CallBySurvey.{firstNo, questionOf, questioned}
 
 module _ (c : List ℕ) (room : ℕ) (sound ok : Bool) (eo : ok ≡ sound) where
   pub no-16 : not ok ≡ true → 16 ≡ questionOf sound room c

@@ -16,7 +16,7 @@ use Rattle.processor_spec.specs.Frame.{wellFormed, framed}
 use Rattle.processor_spec.specs.Pccc.{answeredOf, replyLeft, memoryLeft, slcLeft, left, leftBy}
 use Rattle.processor_spec.specs.Step.{Step, replied, keeps}
 use Rattle.processor_frame.specs.Reply.{replyTo}
-use Rattle.processor_refinement.specs.Steps.{Answers, tells, roomed, tellsIn, Told}
+use Rattle.processor_refinement.specs.StepsBySurvey.{Answers, tells, roomed, tellsIn, Told}
 
 -- the memories that a call leaves, in one equation
 pub answers-left : {x : Step} {slc : Slc} {log reply : List ℕ} {r : Done} {reply′ : List ℕ} (m m′ : List ℕ) → Answers x slc log reply r reply′ → m′ ≡ memoryLeft (x .effect) m

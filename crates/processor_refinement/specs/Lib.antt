@@ -1,2 +1,2 @@
-pub mod Steps
-pub mod Calls
+pub mod StepsBySurvey
+pub mod CallBySurvey

@@ -6,8 +6,8 @@ use processor_table::Seen;
 ghost use mathlib.Core.Path.{_≡_};
 ghost use mathlib.Core.List.{[], _∷_};
 ghost use Rattle.processor_soundness.specs.Sound.{soundBy};
-ghost use Rattle.processor_refinement.specs.Calls.{questionOf};
-ghost use Rattle.processor_refinement.specs.Steps.{Told};
+ghost use Rattle.processor_refinement.specs.CallBySurvey.{questionOf};
+ghost use Rattle.processor_refinement.specs.StepsBySurvey.{Told};
 
 // What the reply memory must hold.
 const ROOM: usize = 514;

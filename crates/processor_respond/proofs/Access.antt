@@ -17,9 +17,9 @@ use Rattle.processor_spec.specs.Pccc.{memoryLeft, slcLeft, left, leftBy}
 use Rattle.processor_masked_write.specs.Written.{written}
 use Rattle.processor_query.specs.declared.Query.{Query}
 use Rattle.processor_table.specs.declared.Seen.{Seen}
-use Rattle.processor_locate.specs.declared.Place.{Place}
-use Rattle.processor_locate.specs.declared.Place.the-variants as place
-use Rattle.processor_refinement.specs.Steps.{Answers, Told, tells, tellsBad, statusStep, readStep, valuesOf, writeStep}
+use Rattle.processor_locate.specs.declared.Located.{Located}
+use Rattle.processor_locate.specs.declared.Located.the-variants as place
+use Rattle.processor_refinement.specs.StepsBySurvey.{Answers, Told, tells, tellsBad, statusStep, readStep, valuesOf, writeStep}
 use Rattle.processor_locate.specs.Locate.{locateBy, placeOf}
 use Rattle.processor_refinement.proofs.Replying.{answers-left, told}
 
@@ -29,7 +29,7 @@ module _ (slc : Slc) (c reply reply′ : List ℕ) (r : Done) where
   unfolding statusStep
   diagnosed d e n a w k = subst (λ (x : List ℕ). Answers (tells c 0 x) slc [] reply r reply′) e (told a w (omega arith) k)
 
-  module _ (s : Seen) (q : Query) (m : List ℕ) (p : Place) (e : placeOf p ≡ locateBy s q) where
+  module _ (s : Seen) (q : Query) (m : List ℕ) (p : Located) (e : placeOf p ≡ locateBy s q) where
     pub fetched-bad : p ≡ place.No → Answers (tellsBad c) slc [] reply r reply′ → Answers (readStep s q m c) slc [] reply r reply′
     unfolding readStep
     fetched-bad f a = let o : locateBy s q ≡ none = sym e ∙ ap placeOf f in rw o a

@@ -1,4 +1,4 @@
 pub mod Access
-pub mod Logs
+pub mod OldestEntry
 pub mod Obeying
 pub mod Responding

@@ -13,7 +13,7 @@ use Rattle.processor_query.specs.declared.Query.{Query}
 use Rattle.processor_query.specs.declared.Wants.{Wants}
 use Rattle.processor_query.specs.declared.Wants.the-variants as wants
 use Rattle.processor_table.specs.declared.Seen.{Seen}
-use Rattle.processor_refinement.specs.Steps.{Answers, tells, tellsBad, statusStep, popStep, readAt, readStep, writeAt, writeStep, valuesOf, obeyStep}
+use Rattle.processor_refinement.specs.StepsBySurvey.{Answers, tells, tellsBad, statusStep, popStep, readAt, readStep, writeAt, writeStep, valuesOf, obeyStep}
 use Rattle.processor_locate.specs.Locate.{locateBy}
 use Rattle.processor_refinement.proofs.Replying.{answers-left, kept}
 

@@ -10,8 +10,8 @@ use Rattle.processor_spec.specs.Pccc.{left, leftBy}
 use Rattle.processor_query.specs.declared.Query.{Query}
 use Rattle.processor_soundness.specs.Sound.{soundBy}
 use Rattle.processor_table.specs.declared.Seen.{Seen}
-use Rattle.processor_refinement.specs.Calls.{questionOf, respondOf}
-use Rattle.processor_refinement.specs.Steps.{obeyStep}
+use Rattle.processor_refinement.specs.CallBySurvey.{questionOf, respondOf}
+use Rattle.processor_refinement.specs.StepsBySurvey.{obeyStep}
 use Rattle.processor_refinement.proofs.Questions.{refuses, goes-on}
 
 module _ (slc : Slc) (s : Seen) (q : Query) (m log c reply : List ℕ) (n : ℕ) (e : n ≡ questionOf (soundBy slc s (length m) log) (length reply) c) where

@@ -1,6 +1,6 @@
 // The covered core of `Slc::pccc`: what a command does that doesn't ask for the directory. What the command says and what the file table holds
 // are told by value.
-use processor_locate::Place;
+use processor_locate::Located;
 use processor_query::Query;
 use processor_query::Wants;
 use processor_spec::Answered;
@@ -15,8 +15,8 @@ ghost use lib.ListN.{length};
 ghost use Rattle.processor_spec.specs.Frame.{wellFormed};
 ghost use Rattle.processor_spec.specs.Pccc.{left, leftBy};
 ghost use Rattle.processor_soundness.specs.Sound.{goodLogBy};
-ghost use Rattle.processor_refinement.specs.Steps.{Answers, statusStep, popStep, readStep, writeStep, obeyStep};
-ghost use Rattle.processor_refinement.specs.Calls.{respondOf};
+ghost use Rattle.processor_refinement.specs.StepsBySurvey.{Answers, statusStep, popStep, readStep, writeStep, obeyStep};
+ghost use Rattle.processor_refinement.specs.CallBySurvey.{respondOf};
 
 // The diagnostic status.
 fn diagnose(slc: Slc, command: &[u8], reply: &mut [u8]) -> Done
@@ -64,7 +64,7 @@ fn fetch(slc: Slc, s: Seen, q: Query, memory: &[u8], command: &[u8], reply: &mut
     requires { ⌜ 514 ≤ length (now reply) ⌝ }
     ensures { λ r. ⌜ Answers (readStep s q (now (memory .entry)) (now (command .entry))) slc [] (now (reply .entry)) r (now (reply .exit)) ⌝ }
 {
-    let Place::At(at) = processor_locate::locate(s, q) else {
+    let Located::At(at) = processor_locate::locate(s, q) else {
         return processor_refinement::bad(slc, command, reply);
     };
     processor_refinement::answer(
@@ -82,7 +82,7 @@ fn store(slc: Slc, s: Seen, q: Query, memory: &mut [u8], command: &[u8], reply: 
     requires { ⌜ 514 ≤ length (now reply) ⌝ }
     ensures { λ r. ⌜ left r (now (memory .exit)) (now (reply .exit)) ≡ leftBy (writeStep s q (now (memory .entry)) (now (command .entry))) slc (now (memory .entry)) [] (now (reply .entry)) ⌝ }
 {
-    let Place::At(at) = processor_locate::locate(s, q) else {
+    let Located::At(at) = processor_locate::locate(s, q) else {
         return processor_refinement::bad(slc, command, reply);
     };
     let n = processor_frame::id_len(command);

@@ -13,8 +13,8 @@ use Rattle.processor_spec.proofs.Tests.{cases}
 use Rattle.processor_query.specs.declared.Query.{Query}
 use Rattle.processor_soundness.specs.Sound.{soundBy}
 use Rattle.processor_table.specs.declared.Seen.{Seen}
-use Rattle.processor_refinement.specs.Calls.{questionOf, showOf}
-use Rattle.processor_refinement.specs.Steps.{Answers, tells, sizeAsked, directoryLength, directoryStep}
+use Rattle.processor_refinement.specs.CallBySurvey.{questionOf, showOf}
+use Rattle.processor_refinement.specs.StepsBySurvey.{Answers, tells, sizeAsked, directoryLength, directoryStep}
 use Rattle.processor_refinement.proofs.Replying.{kept}
 use Rattle.processor_refinement.proofs.Questions.{refuses, goes-on}
 

@@ -12,8 +12,8 @@ ghost use Prim.Native.Nat.{_≤_};
 ghost use lib.ListN.{length};
 ghost use Rattle.processor_spec.specs.Frame.{wellFormed};
 ghost use Rattle.processor_spec.specs.Pccc.{left};
-ghost use Rattle.processor_refinement.specs.Steps.{Answers, tells, sizeAsked, directoryLength, sizeBytes, directoryStep};
-ghost use Rattle.processor_refinement.specs.Calls.{showOf};
+ghost use Rattle.processor_refinement.specs.StepsBySurvey.{Answers, tells, sizeAsked, directoryLength, sizeBytes, directoryStep};
+ghost use Rattle.processor_refinement.specs.CallBySurvey.{showOf};
 
 // The directory's length.
 fn directory_length(s: Seen, l: Layout) -> usize

@@ -1,3 +1,3 @@
-pub mod Texts
-pub mod Logs
+pub mod TypeText
+pub mod DatalogRoom
 pub mod Surveyed

@@ -20,7 +20,7 @@ use Rattle.processor_spec.specs.Files.{find, contents, bytesOf, offset, 
 use Rattle.processor_spec.specs.Masked.{masked, maskedAt}
 use Rattle.processor_spec.specs.Step.{takes, lays, after}
 use Rattle.processor_spec.proofs.Overlay.{part-of, apart-stays, inside-put}
-use Rattle.processor_spec.proofs.Table.{Lies, lies, Apart, apart}
+use Rattle.processor_spec.proofs.FilesApart.{Lies, lies, Apart, apart}
 use Rattle.processor_spec.proofs.Tests.{and-l, and-r, and-both}
 
 -- so many bytes from a place on lie in the file with this number

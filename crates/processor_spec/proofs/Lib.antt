@@ -1,6 +1,6 @@
 pub mod Tests
 pub mod Overlay
-pub mod Table
+pub mod FilesApart
 pub mod Files
 pub mod Asked
 pub mod Steps
@@ -8,8 +8,8 @@ pub mod Plain
 pub mod Leaves
 pub mod Directory
 pub mod Replies
-pub mod Building
-pub mod Elements
+pub mod NewSound
+pub mod ElementAccess
 pub mod Masked
 pub mod Reader
-pub mod Rows
+pub mod ProcessorRows

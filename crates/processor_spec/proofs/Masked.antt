@@ -6,7 +6,7 @@ use native.Mathlib.Numerals.{add-one, add-two}
 use native.Mathlib.Omega.{arith}
 use lib.ListN.{length, getD, take, drop, set, length-set}
 use lib.Seq.{drop-cons}
-use Rattle.base.specs.Masked.{mix}
+use Rattle.base.specs.Masks.{mix}
 use Rattle.base.specs.Numbers.{lowFirst, number}
 use Rattle.base.specs.Put.{put}
 use Rattle.base.proofs.Put.{put-none, put-one, put-cons, put-more, put-behind}

@@ -1,3 +1,4 @@
+pub mod Refusals
 pub mod State
 pub mod Files
 pub mod Masked
@@ -9,5 +10,5 @@ pub mod Step
 pub mod Plain
 pub mod Pccc
 pub mod Build
-pub mod Elements
+pub mod ElementAccess
 pub mod Worked

@@ -3,7 +3,7 @@
 use Prim.Native.Nat.{ℕ, _%_}
 use mathlib.Core.List.{List, [], _∷_, _++_}
 use lib.ListN.{length, take, drop}
-use Rattle.base.specs.Masked.{mix}
+use Rattle.base.specs.Masks.{mix}
 use Rattle.base.specs.Numbers.{lowFirst, number}
 
 -- the old bytes with values written over them, word by word; old bytes that no value is for stay

@@ -1,4 +1,4 @@
--- The processor's worked rows of document 01, W9 to W11: what they speak of, computed by the definitions. `proofs/Rows.antt` has what it comes to.
+-- The processor's worked rows of document 01, W9 to W11: what they speak of, computed by the definitions. `proofs/ProcessorRows.antt` has what it comes to.
 use Prim.Native.Nat.{ℕ}
 use mathlib.Core.List.{List, [], _∷_, _++_}
 use lib.ListN.{getD, drop, replicate}
@@ -21,7 +21,7 @@ use Rattle.processor_spec.specs.Step.{after, popped, perform, obey, refu
 use Rattle.processor_spec.specs.Plain.{entryRoom, entries, holds, within, heldState, noState, stateOf}
 use Rattle.processor_spec.specs.Pccc.{answeredOf, replyLeft, heard, memoryLeft, slcLeft, Left, pcccOf}
 use Rattle.processor_spec.specs.Build.{defaults, orDefaults, wantedWith, has, fileRefusal, recordsFrom, recordsOf, planned, fits, logFits, buildRefusal, slcOf, noSlc, Raised, newOf}
-use Rattle.processor_spec.specs.Elements.{elementAt, setOf, readOf}
+use Rattle.processor_spec.specs.ElementAccess.{elementAt, setOf, readOf}
 
 -- To unfold `all` is to unfold each definition of the processor.
 unfoldable pub all : Unit {0}

@@ -21,6 +21,12 @@ pub struct Slc {
     pub log_left: usize,
 }
 
+// The number of the first question that was answered with no, where one was.
+pub enum Refusal {
+    None,
+    Number(u8),
+}
+
 // What a command answers: the number of the question that was answered with no, or how many bytes of the reply memory are the reply.
 pub enum Answered {
     Refused(u8),

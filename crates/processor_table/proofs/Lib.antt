@@ -1,3 +1,3 @@
-pub mod Records
+pub mod SurveySteps
 pub mod Surveying
-pub mod Right
+pub mod SurveyRight

@@ -1,5 +1,5 @@
 -- Every function that goes through the first n records of a lent table by a step on values, proved once: a walk, by hand, of the MIR that such a function has, over the type of the state,
--- the keys of the functions that bound, begin and step, and the definitions that they meet. n may exceed the table: `lesser` bounds it, and `begin` is told both numbers.
+-- the keys of the functions that bound, begin and step, and the definitions that they meet. n may exceed the table: `least` bounds it, and `begin` is told both numbers.
 --     function        the MIR.        Bound, Begin, Step, Fold     the clauses of the four functions
 --     Upto            where a turn begins: the index, the state, and that to go on from there gives what the whole gives
 --     fold-meets      the function meets `Fold`, where the three that it calls meet theirs, and `right` says that the fold gives what the definition gives
@@ -53,7 +53,7 @@ use denote.Triple.Entry.{Vals, onEntry}
 use denote.Triple.Spec.{Meets, tripleOf}
 use denote.Triple.Walked.{says, Stays, stay-none, stay-none-slice, walkOf, goes-none, goes-none-slice, Walks, ends-at, walked, walk-meets}
 use denote.Exit.{yes}
-use Rattle.processor_table.specs.Steps.{folded}
+use Rattle.processor_table.specs.SurveySteps.{folded}
 use Rattle.processor_table.specs.Survey.{noRecord}
 use Rattle.processor_spec.specs.declared.FileRecord.{FileRecord}
 use Rattle.processor_spec.proofs.FileRecord as T
@@ -199,7 +199,7 @@ module _ (St Rt : State) where
   abbrev pub Ends : {M : Type 1} (𝓤 : URA M) (H : Heap 𝓤) (A : Atoms 𝓤) → (St .row .Denot → Rt .row .Denot) → Contract 𝓤
   Ends 𝓤 H A e = tripleOf 𝓤 H A (end-ended .signature) (closing 𝓤 H A end-ended (End 𝓤 e))
 
--- the lesser of two numbers
+-- the least of two numbers
 abbrev pub bound-ended : Ended
 bound-ended = record { signature = record { lifetimes = 0; outlives = []; params = plain (λ κs. usize) ∷ plain (λ κs. usize) ∷ []; result = plain (λ κs. usize) }; kept = (yes, (yes, tt)) }
 
@@ -222,18 +222,18 @@ nearer n i l = omega arith
 pub below : (i k n : ℕ) → i < k → k ≤ n → i < n
 below i k n l g = omega arith
 
-pub lesser-le : (a c : ℕ) → min a c ≤ c
-lesser-le a c = omega arith
+pub least-le : (a c : ℕ) → min a c ≤ c
+least-le a c = omega arith
 
-lesser-le-left : (a c : ℕ) → min a c ≤ a
-lesser-le-left a c = omega arith
+least-le-left : (a c : ℕ) → min a c ≤ a
+least-le-left a c = omega arith
 
 module _ {X : Type 0} (f : X → FileRecord → X) (ys : List FileRecord) (n i : ℕ) (d : X) where
   -- to take the record at i is to go on from the next
   pub sees : i < min n (length ys) → folded f (dropN (i + 1) (take n ys)) (f d (recordAt ys i)) ≡ folded f (dropN i (take n ys)) d
   unfolding folded
   sees l =
-      ap (λ (r : FileRecord). folded f (dropN (i + 1) (take n ys)) (f d r)) (sym (getD-take n ys i noRecord (below i _ n l (lesser-le-left n (length ys)))))
+      ap (λ (r : FileRecord). folded f (dropN (i + 1) (take n ys)) (f d r)) (sym (getD-take n ys i noRecord (below i _ n l (least-le-left n (length ys)))))
       ∙ ap (λ (k : ℕ). folded f (dropN k (take n ys)) (f d (recordAt (take n ys) i))) (add-one i)
       ∙ sym (ap (λ (t : List FileRecord). folded f t d) (drop-cons (take n ys) i noRecord (subst (λ (k : ℕ). i < k) (sym (length-take n ys)) l)))
 
@@ -401,13 +401,13 @@ module _ (St Rt : State) (bg : ℕ → ℕ → ℕ → St .row .Denot) (f : St .
         forget ! 2 refl $ forget ! 4 refl $ forget ! 6 refl $ forget ! 8 refl $ forget ! 10 refl $ forget ! 12 refl $ forget ! 14 refl $ forget ! 18 refl $ again ! Nearer At t (next t l g e (spelt-d g w is)) (nearer k (t .i) l)))))))
       where
         in-table : t .i < h
-        in-table = below (t .i) k h l (lesser-le n h)
+        in-table = below (t .i) k h l (least-le n h)
 
         place-fits : t .i * 8 < 2 ^ 64
-        place-fits = fits-at h (t .i) k (p .0 .1 .1) l (lesser-le n h)
+        place-fits = fits-at h (t .i) k (p .0 .1 .1) l (least-le n h)
 
         next-fits : t .i + 1 < 2 ^ 64
-        next-fits = fits-next h (t .i) k (p .0 .1 .0) l (lesser-le n h)
+        next-fits = fits-next h (t .i) k (p .0 .1 .0) l (least-le n h)
 
     -- the turn that leaves the loop, and the rest of the body
     ends : (t : U) → k ≤ t .i → ltb (t .i) k ≡ false → Sq W (At t) (runs C Λ En (turn key) (anyQ (Turned t)))

@@ -1,9 +1,8 @@
 // The lent list of file records: one pass tells whether it is sound, and the record that is sought.
 use processor_spec::FileRecord;
 ghost use mathlib.Core.Path.{_≡_};
-ghost use Prim.Native.Nat.{min};
 ghost use Rattle.processor_table.specs.Survey.{lostOf, surveyOf};
-ghost use Rattle.processor_table.specs.Steps.{wholeOf, followsOf, begunOf, passedOf, concludedOf};
+ghost use Rattle.processor_table.specs.SurveySteps.{wholeOf, followsOf, firstNumber, begunOf, passedOf, concludedOf};
 
 // What one pass over the records in use tells. Of unsound records it tells nothing.
 pub struct Seen {
@@ -61,32 +60,25 @@ fn follows(next: u16, total: u32, r: FileRecord) -> bool
     whole(r.code, r.length)
 }
 
-// What is seen before the first of n records of a table that holds so many.
+// The least number that the first of n records may have, in a table that holds so many: 65,535 where there is none, or not as many.
+fn first_number(n: usize, held: usize) -> u16
+    ensures { λ r. ⌜ r ≡ firstNumber n held ⌝ }
+{
+    if n == 0 {
+        return 65535;
+    }
+    if held < n {
+        return 65535;
+    }
+    0
+}
+
+// What is seen before the first of them.
 pub fn begin(n: usize, held: usize, number: u16) -> Pass
     ensures { λ r. ⌜ r ≡ begunOf n held number ⌝ }
 {
-    if n == 0 {
-        return Pass {
-            next: 65535,
-            total: 0,
-            number,
-            code: 0,
-            start: 0,
-            length: 0,
-        };
-    }
-    if held < n {
-        return Pass {
-            next: 65535,
-            total: 0,
-            number,
-            code: 0,
-            start: 0,
-            length: 0,
-        };
-    }
     Pass {
-        next: 0,
+        next: first_number(n, held),
         total: 0,
         number,
         code: 0,
@@ -199,17 +191,11 @@ pub fn conclude(s: Pass) -> Seen
     }
 }
 
-pub fn lesser(a: usize, b: usize) -> usize
-    ensures { λ r. ⌜ r ≡ min a b ⌝ }
-{
-    if a < b { a } else { b }
-}
-
 // The first n records, in one pass.
 pub fn survey(table: &[FileRecord], n: usize, number: u16) -> Seen
     ensures { λ r. ⌜ r ≡ surveyOf (now (table .entry)) n number ⌝ }
 {
-    let m = lesser(n, table.len());
+    let m = base::least(n, table.len());
     let mut s = begin(n, table.len(), number);
     let mut i: usize = 0;
     while i < m {

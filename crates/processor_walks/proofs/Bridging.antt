@@ -53,7 +53,7 @@ use Rattle.processor_spec.proofs.FileRecord.Laws as T′
 use Rattle.processor_spec.proofs.Slc as Z
 use Rattle.processor_spec.proofs.Slc.Laws as Z′
 use Rattle.processor_table.proofs.Surveying.{State}
-use Rattle.processor_walks.proofs.Asking.{CallDef, slcv}
+use Rattle.processor_walks.proofs.Callees.{CallDef, slcv}
 use Rattle.processor_walks.proofs.Choosing.{Choose, ended as call-ended}
 
 abbrev R : RattleType

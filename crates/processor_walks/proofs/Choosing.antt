@@ -58,7 +58,7 @@ use Rattle.processor_table.proofs.Seen.Laws as N′
 use Rattle.processor_table.proofs.Surveying.{State, Fold, ended as fold-ended}
 use Rattle.processor_directory.proofs.Filling.{FillDef, Fill, Fills, Rs, σ as σs, arr, arrs}
 use Rattle.processor_directory.proofs.directory as fill′
-use Rattle.processor_walks.proofs.Asking.{AskDef, CoreDef, CallDef, ask-ended, Asking, Asks, Surveys, seen, Core, Cores, core-ended, slcv, queryv, seenv}
+use Rattle.processor_walks.proofs.Callees.{AskDef, CoreDef, CallDef, ask-ended, Asking, Asks, Surveys, seen, Core, Cores, core-ended, slcv, queryv, seenv}
 
 abbrev R : RattleType
 R = T.the-row

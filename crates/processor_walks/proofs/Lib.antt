@@ -1,4 +1,4 @@
-pub mod Asking
+pub mod Callees
 pub mod Choosing
 pub mod Bridging
-pub mod Laying
+pub mod LayRecords

@@ -16,7 +16,7 @@ use Rattle.base.proofs.Put.{and-then, wrote-length}
 use Rattle.reply_status_text.specs.declared.StatusText.{StatusText}
 use Rattle.reply_status_text.specs.declared.StatusText.the-variants as statusText·
 use Rattle.reply_status_text.specs.Texts.{textOf, Tells}
-use Rattle.reply_status_text.proofs.Texts.{told}
+use Rattle.reply_status_text.proofs.StatusTexts.{told}
 use Rattle.reply.specs.Status.{digit, inHex, first, byteAt, named, extended, said, statusText}
 
 -- ---- a byte in hexadecimal

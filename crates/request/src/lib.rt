@@ -1,6 +1,6 @@
 // Requests that read and write what an address text names.
 pub use request_spec::Request;
-pub use request_spec::Value;
+pub use request_spec::WriteValue;
 pub use request_spec::bit_and_count;
 ghost use mathlib.Core.Path.{_≡_};
 ghost use Rattle.request_spec.specs.Request.{Builds, reading, writing};
@@ -35,7 +35,7 @@ pub fn read_request(tag: &[u8], q: Requestor, sequence: u16, out: &mut [u8]) -> 
 // The message that writes a value to what a tag names; `bytes` are the raw bytes (mask word and data) or the text. Refused with 1 to 6.
 pub fn write_request(
     tag: &[u8],
-    v: Value,
+    v: WriteValue,
     bytes: &[u8],
     q: Requestor,
     sequence: u16,
@@ -61,7 +61,7 @@ pub fn write_request(
             }
             let p = request_spec::place(x, request_write::last_address(x));
             let n = request_frame::put_typed(out, q, sequence, 0xAB, size, p);
-            let m = written_data::put(out, n, v, bytes, x);
+            let m = request_write::put_data(out, n, v, bytes, x);
             Request::Built(x, m)
         }
     }

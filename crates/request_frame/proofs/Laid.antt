@@ -12,8 +12,8 @@ use Rattle.base.specs.Numbers.{lowFirst}
 use Rattle.base.specs.Put.{Wrote, Puts}
 use Rattle.base.proofs.Numbers.{low-length}
 use Rattle.base.proofs.Put.{and-then, wrote-length, puts-room, puts-full}
-use Rattle.request_frame.specs.Frame.{Lays, identity, commandHead, addressField, twoAddresses, threeAddresses, typed, typedLength}
-use Rattle.request_frame.specs.declared.Place.{Place}
+use Rattle.request_frame.specs.RequestFrame.{Lays, identity, commandHead, addressField, twoAddresses, threeAddresses, typed, typedLength}
+use Rattle.request_frame.specs.declared.Target.{Target}
 use Rattle.request_frame.specs.declared.Requestor.{Requestor}
 
 pub lays : {l m : List ℕ} {at r : ℕ} {bs : List ℕ} → Puts l at bs r m → Lays l at bs r m
@@ -80,7 +80,7 @@ command-laid {l} {m} {j} {r} {t} q cmd n h a b =
     let e : n / 256 % 256 ≡ n / 256 = mod-eq-of-lt (omega arith) in
     then a (rw e b)
 
-pub two-laid : {l m k j i : List ℕ} {at r s t u : ℕ} (fnc size : ℕ) (p : Place)
+pub two-laid : {l m k j i : List ℕ} {at r s t u : ℕ} (fnc size : ℕ) (p : Target)
     → Lays l at (fnc ∷ size ∷ []) r m → Lays m r (addressField (p .file)) s k → Lays k s (p .code ∷ []) t j → Lays j t (addressField (p .element)) u i
     → Lays l at (twoAddresses fnc size p) u i
 unfolding twoAddresses
@@ -91,11 +91,11 @@ pub command-length : (q : Requestor) (cmd n : ℕ) → length (q .vid) ≡ 2 →
 unfolding commandHead identity
 command-length q cmd n v w = simp (length-append, v, w, low-length)
 
-pub two-length : (fnc size : ℕ) (p : Place) → length (twoAddresses fnc size p) ≡ 3 + length (addressField (p .file)) + length (addressField (p .element))
+pub two-length : (fnc size : ℕ) (p : Target) → length (twoAddresses fnc size p) ≡ 3 + length (addressField (p .file)) + length (addressField (p .element))
 unfolding twoAddresses
 two-length fnc size p = simp length-append (omega arith)
 
-module _ (q : Requestor) (n fnc size : ℕ) (p : Place) (v : length (q .vid) ≡ 2) (w : length (q .vsn) ≡ 4) where
+module _ (q : Requestor) (n fnc size : ℕ) (p : Target) (v : length (q .vid) ≡ 2) (w : length (q .vsn) ≡ 4) where
   pub typed-length : length (typed q n fnc size p) ≡ typedLength p
   unfolding typed threeAddresses
   typed-length = simp (length-append, command-length q 0x0F n v w, two-length) (omega arith)

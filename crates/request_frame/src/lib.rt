@@ -4,7 +4,7 @@ pub mod put;
 ghost use mathlib.Core.Path.{_≡_};
 ghost use lib.ListN.{length};
 ghost use Rattle.base.specs.Put.{Puts};
-ghost use Rattle.request_frame.specs.Frame.{defaultRequestor, typed, typedLength};
+ghost use Rattle.request_frame.specs.RequestFrame.{defaultRequestor, typed, typedLength};
 
 // Who asks: two vendor bytes and four serial bytes, as sent.
 #[repr(C)]
@@ -14,7 +14,7 @@ pub struct Requestor {
 }
 
 // Where a typed logical command points: file number, type code, element, sub-element.
-pub struct Place {
+pub struct Target {
     pub file: u16,
     pub code: u8,
     pub element: u16,
@@ -40,7 +40,7 @@ pub fn put_typed(
     sequence: u16,
     function: u8,
     size: u8,
-    p: Place,
+    p: Target,
 ) -> usize
     ensures { λ r. ⌜ Puts (now (out .entry)) 0 (typed q sequence function size p) r (now (out .exit)) ⌝ }
     ensures { λ r. ⌜ length (typed q sequence function size p) ≡ typedLength p ⌝ }

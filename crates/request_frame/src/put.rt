@@ -2,9 +2,9 @@
 ghost use mathlib.Core.Path.{_≡_};
 ghost use Prim.Native.Nat.{_≤_};
 ghost use lib.ListN.{length};
-ghost use Rattle.request_frame.specs.Frame.{Lays, addressField, identity as Frame·identity, commandHead, twoAddresses, typedLength};
-use crate::Place;
+ghost use Rattle.request_frame.specs.RequestFrame.{Lays, addressField, identity as Frame·identity, commandHead, twoAddresses, typedLength};
 use crate::Requestor;
+use crate::Target;
 
 fn field_len(n: u16) -> usize
     ensures { λ r. ⌜ (r ≡ length (addressField n)) × (r ≤ 3) ⌝ }
@@ -15,7 +15,7 @@ fn field_len(n: u16) -> usize
     1
 }
 
-pub fn typed_len(p: Place) -> usize
+pub fn typed_len(p: Target) -> usize
     ensures { λ r. ⌜ r ≡ typedLength p ⌝ }
 {
     20 + field_len(p.file) + field_len(p.element) + field_len(p.sub)
@@ -52,7 +52,7 @@ pub fn command(out: &mut [u8], q: Requestor, cmd: u8, sequence: u16) -> usize
     base::put_all(out, a, &[cmd, 0x00, low, high])
 }
 
-pub fn two_addresses(out: &mut [u8], at: usize, function: u8, size: u8, p: Place) -> usize
+pub fn two_addresses(out: &mut [u8], at: usize, function: u8, size: u8, p: Target) -> usize
     ensures { λ r. ⌜ Lays (now (out .entry)) at (twoAddresses function size p) r (now (out .exit)) ⌝ }
 {
     let a = base::put_all(out, at, &[function, size]);

@@ -1,2 +1,2 @@
-pub mod Asking
+pub mod RequestQuestions
 pub mod Supplied

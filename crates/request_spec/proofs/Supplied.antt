@@ -7,7 +7,7 @@ use native.Mathlib.Omega.{arith}
 use borrow.Author.Tests.{le-leb, lt-leb, le-ltb}
 use lib.Dec.{leb, ltb, eqb}
 use lib.ListN.{length, length-append}
-use Rattle.base.specs.Masked.{bitMask}
+use Rattle.base.specs.Masks.{bitMask}
 use Rattle.base.specs.Numbers.{lowFirst}
 use Rattle.base.proofs.Numbers.{low-length}
 use Rattle.file_type.specs.Table.{row}
@@ -15,12 +15,12 @@ use Rattle.element_text.specs.Text.{asciiText, stringText}
 use Rattle.element_text.proofs.Text as swap-text
 use Rattle.address_spec.specs.declared.Address.{Address}
 use Rattle.address_spec.specs.Spelling.{orZero}
-use Rattle.request_frame.specs.Frame.{Lays}
+use Rattle.request_frame.specs.RequestFrame.{Lays}
 use Rattle.request_frame.proofs.Laid.{then}
-use Rattle.request_spec.specs.Answers.{dataSizeOf}
+use Rattle.request_spec.specs.SizeAnswers.{dataSizeOf}
 use Rattle.request_spec.specs.Request.{isAscii, bitData, textData, supplied}
-use Rattle.request_spec.specs.declared.Value.{Value}
-use Rattle.request_spec.specs.declared.Value.the-variants as value
+use Rattle.request_spec.specs.declared.WriteValue.{WriteValue}
+use Rattle.request_spec.specs.declared.WriteValue.the-variants as value
 use Rattle.request_spec.specs.declared.Size.the-variants as size
 
 pub no-mask : (n : ℕ) → 16 ≤ n → _≡_ {A = ℕ} 0 (bitMask n)
@@ -30,7 +30,7 @@ pub is-ascii : (x : Address) {code : ℕ} → code ≡ row (x .«file_type») .c
 is-ascii x e = rw e
 
 -- ---- by the kind of value
-module _ (s : List ℕ) (x : Address) {v : Value} where
+module _ (s : List ℕ) (x : Address) {v : WriteValue} where
   module _ (h : v ≡ value.Raw) where
     raw : supplied v s x ≡ s
     unfolding supplied

@@ -5,7 +5,7 @@ use mathlib.Core.Bool.{Bool, true, false, not, _&&_, _||_, cond}
 use mathlib.Core.List.{List, [], _∷_, _++_}
 use lib.Dec.{leb, ltb, eqb}
 use lib.ListN.{length}
-use Rattle.base.specs.Masked.{bitMask}
+use Rattle.base.specs.Masks.{bitMask}
 use Rattle.base.specs.Numbers.{lowFirst}
 use Rattle.base.specs.Put.{put}
 use Rattle.file_type.specs.Table.{row}
@@ -17,13 +17,13 @@ use Rattle.address_spec.specs.declared.Parsed.{Parsed}
 use Rattle.address_spec.specs.declared.Parsed.the-variants as parsed
 use Rattle.address_spec.specs.Elements.{Elements, elementsOf}
 use Rattle.address_spec.specs.Spelling.{addressOf, orZero}
-use Rattle.request_frame.specs.Frame.{typed}
-use Rattle.request_frame.specs.declared.Place.{Place}
+use Rattle.request_frame.specs.RequestFrame.{typed}
+use Rattle.request_frame.specs.declared.Target.{Target}
 use Rattle.request_frame.specs.declared.Requestor.{Requestor}
 use Rattle.request_spec.specs.declared.Request.{Request}
 use Rattle.request_spec.specs.declared.Request.the-variants as request
-use Rattle.request_spec.specs.declared.Value.{Value}
-use Rattle.request_spec.specs.declared.Value.the-variants as value
+use Rattle.request_spec.specs.declared.WriteValue.{WriteValue}
+use Rattle.request_spec.specs.declared.WriteValue.the-variants as value
 
 -- what a request builder does: a refusal by its number, or the address and the message
 pub data Asked : Type 0 where
@@ -48,7 +48,7 @@ unfoldable pub bitAndCount : Address → Bool
 bitAndCount x = x .bit && ltb 1 (x .«element_count»)
 
 -- file, type code, element and last address field
-abbrev pub place : Elements → ℕ → Place
+abbrev pub place : Elements → ℕ → Target
 place e last = record { file = e .file; code = row (e .type) .code; element = e .element; sub = last }
 
 -- ---- read
@@ -97,7 +97,7 @@ unfoldable pub textSuits : Address → Bool
 textSuits x = (isAscii x || is x ST) && leb (x .«element_count») 1
 
 -- "4. Write: is the value raw bytes; or true/false ..; or Latin-1 text ..? no: 4"
-unfoldable pub suits : Value → Address → Bool
+unfoldable pub suits : WriteValue → Address → Bool
 suits value.Raw x = true
 suits (value.Bool b) x = bitSuits x
 suits value.Text x = textSuits x
@@ -111,7 +111,7 @@ unfoldable pub textData : Bool → List ℕ → List ℕ
 textData ascii s = lowFirst 2 0xFFFF ++ cond ascii (asciiText s) (stringText s)
 
 -- mask word and data; "Raw bytes supply mask and data."
-unfoldable pub supplied : Value → List ℕ → Address → List ℕ
+unfoldable pub supplied : WriteValue → List ℕ → Address → List ℕ
 supplied value.Raw s x = s
 supplied (value.Bool b) s x = bitData (orZero (x .«sub_element»)) b
 supplied value.Text s x = textData (isAscii x) s
@@ -130,10 +130,10 @@ writeData q sequence room x d =
     cond (leb 2 (length d) && leb (length d) 257) (cond (leb 284 room) (sends x (writeMessage q sequence x d)) (refused 6)) (refused 5)
 
 -- 3 to 6, put to the address
-unfoldable pub writeAddress : Value → List ℕ → Requestor → ℕ → ℕ → Address → Asked
+unfoldable pub writeAddress : WriteValue → List ℕ → Requestor → ℕ → ℕ → Address → Asked
 writeAddress v s q sequence room x =
     cond (bitAndCount x) (refused 3) (cond (suits v x) (writeData q sequence room x (supplied v s x)) (refused 4))
 
 -- "write (`write_request`: 1 to 6)"
-abbrev pub writing : List ℕ → Value → List ℕ → Requestor → ℕ → List ℕ → Asked
+abbrev pub writing : List ℕ → WriteValue → List ℕ → Requestor → ℕ → List ℕ → Asked
 writing tag v s q sequence out = onAddress (addressOf tag) (writeAddress v s q sequence (length out))

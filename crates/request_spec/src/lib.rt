@@ -2,14 +2,13 @@
 ghost use mathlib.Core.Path.{_≡_};
 ghost use Rattle.address_spec.specs.Elements.{elementsOf};
 ghost use Rattle.address_spec.specs.Spelling.{orZero};
-ghost use Rattle.request_spec.specs.Answers.{sizeOf};
+ghost use Rattle.request_spec.specs.SizeAnswers.{sizeOf};
 ghost use Rattle.request_spec.specs.Request.{bitAndCount, place as Request·place, readSize};
 use address_spec::Address;
-use address_spec::Maybe;
-use request_frame::Place;
+use request_frame::Target;
 
 // What to write. Raw bytes and text stand beside it.
-pub enum Value {
+pub enum WriteValue {
     Raw,
     Bool(bool),
     Text,
@@ -51,27 +50,18 @@ pub fn read_size(x: Address) -> Size
     Size::Is(size as u8)
 }
 
-pub fn or_zero(n: Maybe) -> u16
-    ensures { λ r. ⌜ r ≡ orZero n ⌝ }
-{
-    match n {
-        Maybe::Missing => 0,
-        Maybe::Is(k) => k,
-    }
-}
-
 pub fn position(x: Address) -> u16
     ensures { λ r. ⌜ r ≡ orZero (x .«pos_number») ⌝ }
 {
     let n = x.pos_number;
-    or_zero(n)
+    address_spec::or_zero(n)
 }
 
-pub fn place(x: Address, last: u16) -> Place
+pub fn place(x: Address, last: u16) -> Target
     ensures { λ r. ⌜ r ≡ Request·place (elementsOf x) last ⌝ }
 {
     let t = x.file_type;
-    Place {
+    Target {
         file: x.file_number,
         code: t.code(),
         element: x.element_number,

@@ -7,7 +7,7 @@ use lib.Dec.{leb}
 use lib.ListN.{length}
 use Rattle.base.specs.Outcome.{Outcome, refused, lays, left}
 use Rattle.directory_sys0.specs.declared.Sys0Info.{Sys0Info}
-use Rattle.request_frame.specs.Frame.{commandHead, twoAddresses}
+use Rattle.request_frame.specs.RequestFrame.{commandHead, twoAddresses}
 use Rattle.request_frame.specs.declared.Requestor.{Requestor}
 use Rattle.request_untagged.specs.declared.Message.{Message}
 use Rattle.request_untagged.specs.declared.Message.the-variants as message

@@ -1,8 +1,8 @@
 // The requests without an address text: for the processor type, for a datalog entry, and for the size and the rows of the file directory.
 ghost use Rattle.request_untagged.specs.Requests.{Builds, processorType, datalog, directorySize, directoryRead};
 use directory_sys0::Sys0Info;
-use request_frame::Place;
 use request_frame::Requestor;
+use request_frame::Target;
 
 // The length of a request, or the number of the question that was answered with no.
 pub enum Message {
@@ -73,7 +73,7 @@ pub fn file_directory_read_request(
     if out.len() < 27 {
         return Message::Refused(6);
     }
-    let p = Place {
+    let p = Target {
         file: 0,
         code: file_type,
         element: offset as u16,

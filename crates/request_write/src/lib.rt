@@ -1,13 +1,15 @@
-// Questions 4 and 5 of a write, and its last address field.
+// Questions 4 and 5 of a write, its last address field, and its mask word and data in lent memory.
 ghost use mathlib.Core.Path.{_≡_};
 ghost use mathlib.Core.Bool.{_||_};
 ghost use lib.Dec.{eqb};
 ghost use lib.ListN.{length};
-ghost use Rattle.request_spec.specs.Answers.{dataSizeOf};
-ghost use Rattle.request_spec.specs.Request.{presetOrAccum, bitSuits, textSuits, suits as Request·suits, lastAddress, isAscii, supplied};
+ghost use Rattle.base.specs.Masks.{bitMask};
+ghost use Rattle.request_frame.specs.RequestFrame.{Lays};
+ghost use Rattle.request_spec.specs.SizeAnswers.{dataSizeOf};
+ghost use Rattle.request_spec.specs.Request.{presetOrAccum, bitSuits, textSuits, suits as Request·suits, lastAddress, isAscii, bitData, textData, supplied};
 use address_spec::Address;
 use request_spec::Size;
-use request_spec::Value;
+use request_spec::WriteValue;
 
 fn either(n: u16, a: u16, b: u16) -> bool
     ensures { λ r. ⌜ r ≡ (eqb n a || eqb n b) ⌝ }
@@ -25,7 +27,7 @@ fn preset_or_accum(x: Address) -> bool
     let t = x.file_type;
     let sub = x.sub_element;
     if either(t.code() as u16, 0x86, 0x87) {
-        return either(request_spec::or_zero(sub), 1, 2);
+        return either(address_spec::or_zero(sub), 1, 2);
     }
     false
 }
@@ -49,13 +51,13 @@ fn text_suits(x: Address) -> bool
     false
 }
 
-pub fn suits(v: Value, x: Address) -> bool
+pub fn suits(v: WriteValue, x: Address) -> bool
     ensures { λ r. ⌜ r ≡ Request·suits v x ⌝ }
 {
     match v {
-        Value::Raw => true,
-        Value::Bool(b) => bit_suits(x),
-        Value::Text => text_suits(x),
+        WriteValue::Raw => true,
+        WriteValue::Bool(b) => bit_suits(x),
+        WriteValue::Text => text_suits(x),
     }
 }
 
@@ -64,25 +66,25 @@ pub fn last_address(x: Address) -> u16
 {
     let sub = x.sub_element;
     if preset_or_accum(x) {
-        return request_spec::or_zero(sub);
+        return address_spec::or_zero(sub);
     }
     request_spec::position(x)
 }
 
-pub fn is_ascii(x: Address) -> bool
+fn is_ascii(x: Address) -> bool
     ensures { λ r. ⌜ r ≡ isAscii x ⌝ }
 {
     let t = x.file_type;
     t.code() == 0x8E
 }
 
-fn length(v: Value, bytes: &[u8], x: Address) -> usize
+fn supplied_length(v: WriteValue, bytes: &[u8], x: Address) -> usize
     ensures { λ r. ⌜ r ≡ length (supplied v (now (bytes .entry)) x) ⌝ }
 {
     match v {
-        Value::Raw => bytes.len(),
-        Value::Bool(b) => 4,
-        Value::Text => {
+        WriteValue::Raw => bytes.len(),
+        WriteValue::Bool(b) => 4,
+        WriteValue::Text => {
             if is_ascii(x) {
                 return 4;
             }
@@ -92,10 +94,10 @@ fn length(v: Value, bytes: &[u8], x: Address) -> usize
 }
 
 // The data without the mask, where mask and data have 2 to 257 bytes.
-pub fn size(v: Value, bytes: &[u8], x: Address) -> Size
+pub fn size(v: WriteValue, bytes: &[u8], x: Address) -> Size
     ensures { λ r. ⌜ r ≡ dataSizeOf (length (supplied v (now (bytes .entry)) x)) ⌝ }
 {
-    let n = length(v, bytes, x);
+    let n = supplied_length(v, bytes, x);
     if n < 2 {
         return Size::No;
     }
@@ -103,4 +105,48 @@ pub fn size(v: Value, bytes: &[u8], x: Address) -> Size
         return Size::No;
     }
     Size::Is((n - 2) as u8)
+}
+
+fn mask(n: u16) -> u16
+    ensures { λ r. ⌜ r ≡ bitMask n ⌝ }
+{
+    if n < 16 {
+        return base::bit_mask(n as u8);
+    }
+    0
+}
+
+fn put_bit(out: &mut [u8], at: usize, n: u16, b: bool) -> usize
+    ensures { λ r. ⌜ Lays (now (out .entry)) at (bitData n b) r (now (out .exit)) ⌝ }
+{
+    let m = mask(n);
+    let a = base::put_number(out, at, 2, m as u64);
+    if b {
+        return base::put_number(out, a, 2, m as u64);
+    }
+    base::put_number(out, a, 2, 0)
+}
+
+fn put_text(out: &mut [u8], at: usize, ascii: bool, text: &[u8]) -> usize
+    ensures { λ r. ⌜ Lays (now (out .entry)) at (textData ascii (now (text .entry))) r (now (out .exit)) ⌝ }
+{
+    let a = base::put_number(out, at, 2, 0xFFFF);
+    if ascii {
+        let two = element_text::encode_pccc_ascii(text);
+        return base::put_all(out, a, &two);
+    }
+    let line = element_text::encode_pccc_string(text);
+    base::put_all(out, a, &line)
+}
+
+// Mask word and data, as the value supplies them.
+pub fn put_data(out: &mut [u8], at: usize, v: WriteValue, bytes: &[u8], x: Address) -> usize
+    ensures { λ r. ⌜ Lays (now (out .entry)) at (supplied v (now (bytes .entry)) x) r (now (out .exit)) ⌝ }
+{
+    let sub = x.sub_element;
+    match v {
+        WriteValue::Raw => base::put_all(out, at, bytes),
+        WriteValue::Bool(b) => put_bit(out, at, address_spec::or_zero(sub), b),
+        WriteValue::Text => put_text(out, at, is_ascii(x), bytes),
+    }
 }

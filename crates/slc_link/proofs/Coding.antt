@@ -11,7 +11,7 @@ use Rattle.file_type.specs.declared.Known.the-variants as known
 use Rattle.file_type.specs.Table.{ofCode}
 use Rattle.link_elements.specs.declared.SlcElement.{SlcElement}
 use Rattle.link_elements.specs.declared.SlcValue.{SlcValue}
-use Rattle.link_elements.specs.Elements.{valueOf, refusalOf, numbersOf, StoresInNumbers, ReadsInNumbers, encodedIn, decodedIn}
+use Rattle.link_elements.specs.ElementRecords.{valueOf, refusalOf, numbersOf, StoresInNumbers, ReadsInNumbers, encodedIn, decodedIn}
 
 module _ (code : ℕ) (k : Known) (e : k ≡ ofCode code) where
   module _ (v : SlcValue) (text l l′ : List ℕ) (r : ℕ) where

@@ -4,7 +4,7 @@ ghost use lib.ListN.{length};
 ghost use Rattle.directory.specs.Rows.{listed};
 ghost use Rattle.directory_size.specs.Size.{sizeOf};
 ghost use Rattle.request_untagged.specs.Requests.{directorySize, directoryRead};
-ghost use Rattle.link_texts.specs.Written.{Sends, Lists, sizeRecord};
+ghost use Rattle.link_texts.specs.WrittenRecords.{Sends, Lists, sizeRecord};
 ghost use Rattle.directory_sys0.specs.Families.{sys0};
 use directory_sys0::Sys0Info;
 use link_texts::SlcDirectorySize;

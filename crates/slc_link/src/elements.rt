@@ -1,7 +1,7 @@
 // The bytes of one element.
 ghost use lib.ListN.{length};
 ghost use Rattle.file_type.specs.Table.{ofCode};
-ghost use Rattle.link_elements.specs.Elements.{StoresInNumbers, ReadsInNumbers, encodedIn, decodedIn};
+ghost use Rattle.link_elements.specs.ElementRecords.{StoresInNumbers, ReadsInNumbers, encodedIn, decodedIn};
 use file_type::FileType;
 use file_type::Known;
 use link_elements::SlcElement;

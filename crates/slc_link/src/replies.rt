@@ -1,6 +1,6 @@
 // What a raw reply says.
 ghost use mathlib.Core.Path.{_≡_};
-ghost use Rattle.link_texts.specs.Written.{Says, partOf};
+ghost use Rattle.link_texts.specs.WrittenRecords.{Says, partOf};
 ghost use Rattle.reply_status_text.specs.Texts.{textOf};
 ghost use Rattle.reply.specs.Status.{statusText};
 use link_texts::SlcPart;

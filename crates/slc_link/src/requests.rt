@@ -1,14 +1,14 @@
 // Addresses and requests.
 ghost use mathlib.Core.Path.{_≡_};
 ghost use Rattle.address_spec.specs.Spelling.{addressOf};
-ghost use Rattle.request_frame.specs.Frame.{defaultRequestor};
+ghost use Rattle.request_frame.specs.RequestFrame.{defaultRequestor};
 ghost use Rattle.request_untagged.specs.Requests.{processorType, datalog};
 ghost use Rattle.link_requests.specs.Kinds.{kindOf, writingKind};
-ghost use Rattle.link_requests.specs.Requests.{addressRecord, Asks};
-ghost use Rattle.link_texts.specs.Written.{Sends};
+ghost use Rattle.link_requests.specs.RequestRecords.{addressRecord, Asks};
+ghost use Rattle.link_texts.specs.WrittenRecords.{Sends};
 ghost use Rattle.request_spec.specs.Request.{reading};
 use link_requests::kinds;
-use link_requests::kinds::Kind;
+use link_requests::kinds::WriteKind;
 use link_requests::requests as records;
 use link_requests::requests::SlcAddress;
 use link_requests::requests::SlcRequest;
@@ -54,7 +54,7 @@ pub extern "C" fn slc_write_request(
 {
     let k = kinds::kind_of(kind);
     match k {
-        Kind::Is(v) => records::request_record(request::write_request(
+        WriteKind::Is(v) => records::request_record(request::write_request(
             tag,
             v,
             bytes,
@@ -62,7 +62,7 @@ pub extern "C" fn slc_write_request(
             sequence,
             out,
         )),
-        Kind::Unknown => records::request_record(kinds::unsuited(tag)),
+        WriteKind::Unknown => records::request_record(kinds::unsuited(tag)),
     }
 }
 

@@ -3,9 +3,9 @@ ghost use lib.ListN.{length};
 ghost use Rattle.file_type.specs.Table.{ofCode};
 ghost use Rattle.processor_spec.specs.Build.{newOf, planOf};
 ghost use Rattle.processor_spec.specs.Plain.{stateOf};
-ghost use Rattle.link_element_access.specs.Access.{readIn, setIn};
-ghost use Rattle.link_processor.specs.Answers.{SaysInNumbers, Raises};
-ghost use Rattle.link_elements.specs.Elements.{StoresInNumbers, ReadsInNumbers};
+ghost use Rattle.link_element_access.specs.AccessByCode.{readIn, setIn};
+ghost use Rattle.link_processor.specs.ProcessorRecords.{SaysInNumbers, Raises};
+ghost use Rattle.link_elements.specs.ElementRecords.{StoresInNumbers, ReadsInNumbers};
 use link_element_access::SlcSetting;
 use link_element_access::SlcSpot;
 use link_elements::SlcElement;
@@ -43,7 +43,7 @@ pub extern "C" fn slc_pccc(
 ) -> SlcDone
     ensures { λ r. ⌜ SaysInNumbers slc (now (table .entry)) (now (memory .entry)) (now (log .entry)) (now (command .entry)) (now (reply .entry)) r (now (memory .exit)) (now (reply .exit)) ⌝ }
 {
-    let q = asked::asked(slc, command);
+    let q = processor_query::asked(slc, command);
     let s = processor_table::survey(table, slc.files, q.number);
     if q.directory {
         let d = processor_directory::directory(table, slc.files, q, s);

@@ -1,6 +1,6 @@
 // Byte pairs swapped, and the text of A and ST elements.
 ghost use mathlib.Core.Path.{_≡_};
-ghost use Rattle.link_texts.specs.Written.{Swaps};
+ghost use Rattle.link_texts.specs.WrittenRecords.{Swaps};
 ghost use Rattle.element_text.specs.Text.{swapPairs, paddedSwap, asciiText, stringText};
 use link_texts::SlcWritten;
 

@@ -1,3 +1,3 @@
 pub mod Lines
-pub mod Rows
+pub mod LineRows
 pub mod Shown

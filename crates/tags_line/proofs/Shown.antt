@@ -15,7 +15,7 @@ use Rattle.decimal.specs.Decimals.{decimal}
 use Rattle.decimal.proofs.Decimals.{decimal-length}
 use Rattle.address_spec.specs.declared.Address.{Address}
 use Rattle.address_spec.specs.Spelling.{addressOf}
-use Rattle.request_frame.specs.Frame.{Lays, defaultRequestor}
+use Rattle.request_frame.specs.RequestFrame.{Lays, defaultRequestor}
 use Rattle.request_frame.specs.declared.Requestor.{Requestor}
 use Rattle.request_frame.proofs.Laid.{then}
 use Rattle.request_spec.specs.Request.{Asked, refused, sends, Builds, onAddress, readAddress}

@@ -2,7 +2,7 @@
 use Prim.Native.Nat.{ℕ, _≤_}
 use mathlib.Core.List.{List}
 use lib.ListN.{length}
-use Rattle.request_frame.specs.Frame.{Lays}
+use Rattle.request_frame.specs.RequestFrame.{Lays}
 use Rattle.tags_line.specs.Lines.{asked, answer}
 
 -- the answer to a line, laid where there is room for it; it has at most 64 bytes

@@ -9,7 +9,7 @@ use Rattle.text.specs.Hex.{hex}
 use Rattle.text.specs.Line.{before}
 use Rattle.decimal.specs.Decimals.{decimal}
 use Rattle.address_spec.specs.Spelling.{addressOf}
-use Rattle.request_frame.specs.Frame.{defaultRequestor}
+use Rattle.request_frame.specs.RequestFrame.{defaultRequestor}
 use Rattle.request_spec.specs.Request.{Asked, refused, sends, onAddress, readAddress}
 
 -- "by line": a newline (10) ends a line; bytes behind the last newline are a line too ("a missing last newline doesn't"), and no byte there is

@@ -1,6 +1,6 @@
 // The answer to one line of the program `tags`, and the definition of the whole program (specs/Lines.antt).
 ghost use mathlib.Core.List.{[], _∷_, _++_};
-ghost use Rattle.request_frame.specs.Frame.{Lays};
+ghost use Rattle.request_frame.specs.RequestFrame.{Lays};
 ghost use Rattle.request_spec.specs.Request.{refused};
 ghost use Rattle.text.specs.Hex.{hex};
 ghost use Rattle.tags_line.specs.Lines.{answer as Lines·answer};

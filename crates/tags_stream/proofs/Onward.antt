@@ -16,7 +16,7 @@ use Rattle.base.proofs.Put.{and-then, put-none, put-first}
 use Rattle.tags_line.specs.Lines.{asked, answer, answers}
 use Rattle.tags_stream.specs.Pieces.{ended, rest, last, held, keeping, keptBy, Feeds, Finishes}
 use Rattle.tags_line.specs.Answered.{Answered}
-use Rattle.tags_stream.specs.Steps.{Onward, Stepped, Ran}
+use Rattle.tags_stream.specs.FeedSteps.{Onward, Stepped, Ran}
 use Rattle.tags_stream.specs.declared.Line.{Line}
 use Rattle.tags_stream.specs.declared.Went.{Went}
 use Rattle.tags_stream.proofs.Long.{long-same, held-held}

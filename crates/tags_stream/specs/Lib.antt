@@ -1,2 +1,2 @@
 pub mod Pieces
-pub mod Steps
+pub mod FeedSteps

@@ -4,7 +4,7 @@ ghost use mathlib.Core.List.{[]};
 ghost use Prim.Native.Nat.{_+_, _*_, _≤_};
 ghost use lib.ListN.{length};
 ghost use Rattle.tags_stream.specs.Pieces.{keeping, Feeds, Finishes};
-ghost use Rattle.tags_stream.specs.Steps.{Stepped, Ran};
+ghost use Rattle.tags_stream.specs.FeedSteps.{Stepped, Ran};
 
 // What is kept of a line that has not ended: its first bytes, up to 256.
 #[repr(C)]

@@ -1,5 +1,5 @@
-pub mod Back
+pub mod HexBack
 pub mod Exact
 pub mod Pairs
-pub mod Rows
+pub mod HexRows
 pub mod Splits

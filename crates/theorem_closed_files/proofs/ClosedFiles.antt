@@ -18,7 +18,7 @@ use Rattle.processor_spec.specs.Step.{Answer, replied, keeps, takes, lays, Step
 use Rattle.processor_spec.proofs.Asked.{Asked}
 use Rattle.processor_spec.proofs.Files.{Inside, sound-ends, read-inside, write-length, write-same, write-other, write-sound, pop-sound}
 use Rattle.processor_spec.proofs.Steps.{write-inside}
-use Rattle.processor_spec.proofs.Table.{same-table}
+use Rattle.processor_spec.proofs.FilesApart.{same-table}
 use Rattle.processor_spec.proofs.Tests.{and-l, and-r}
 use Rattle.theorem_closed_files.specs.Closed.{avoids, allAvoid, Agree, SameCalls, none-left, one-more, Isolated, ClosedFileRule}
 use Rattle.theorem_closed_files.proofs.Avoided.{Open, open-asked}

@@ -1,4 +1,4 @@
 pub mod Avoided
 pub mod ClosedFiles
 pub mod Calls
-pub mod Rows
+pub mod AvoidedRows

@@ -13,7 +13,7 @@ use Rattle.theorem_closed_files.specs.Calls as calls
 use Rattle.theorem_closed_files.specs.Closed.{Isolated}
 use Rattle.theorem_closed_files.proofs.Calls.{closed-file-rule-of-calls}
 use Rattle.link_processor.specs.declared.SlcDone.{SlcDone}
-use Rattle.link_processor.specs.Answers.{answeredTo, doneOf}
+use Rattle.link_processor.specs.ProcessorRecords.{answeredTo, doneOf}
 use Rattle.theorem_exported_closed_files.specs.Exported.{Told, toldBy, Exports, no-call, one-call, ClosedFileRuleOfExports}
 
 -- what is heard of a call, in numbers

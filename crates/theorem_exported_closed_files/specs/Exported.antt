@@ -9,7 +9,7 @@ use Rattle.processor_spec.specs.Step.{Call}
 use Rattle.theorem_closed_files.specs.Calls.{Processor, state}
 use Rattle.theorem_closed_files.specs.Closed.{allAvoid, Agree, SameCalls, Isolated}
 use Rattle.link_processor.specs.declared.SlcDone.{SlcDone}
-use Rattle.link_processor.specs.Answers.{SaysInNumbers}
+use Rattle.link_processor.specs.ProcessorRecords.{SaysInNumbers}
 
 -- what a caller has of a call: the number, the length, and the bytes of the reply
 abbrev pub Told : Type 0

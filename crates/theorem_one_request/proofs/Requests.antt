@@ -11,8 +11,8 @@ use lib.ListN.{length, getD, drop, length-append}
 use lib.Seq.{drop-at}
 use Rattle.base.specs.Numbers.{lowFirst, number}
 use Rattle.base.proofs.Numbers.{low-length, read-back}
-use Rattle.request_frame.specs.Frame.{identity, commandHead, addressField, twoAddresses}
-use Rattle.request_frame.specs.declared.Place.{Place}
+use Rattle.request_frame.specs.RequestFrame.{identity, commandHead, addressField, twoAddresses}
+use Rattle.request_frame.specs.declared.Target.{Target}
 use Rattle.request_frame.specs.declared.Requestor.{Requestor}
 use Rattle.parser_spec.specs.Parts.{then}
 use Rattle.processor_spec.specs.Frame.{wellFormed, body, cmd, function}
@@ -48,7 +48,7 @@ address-back n rest h = go (ltb n 255) refl
     go false t = address-word n rest h
 
 -- what stands behind the function byte of a typed command is its header, and what follows
-pub header-back : (fn size : ℕ) (p : Place) (rest : List ℕ) → p .file < 65536 → p .element < 65536
+pub header-back : (fn size : ℕ) (p : Target) (rest : List ℕ) → p .file < 65536 → p .element < 65536
     → header (drop 1 (twoAddresses fn size p) ++ rest) ≡ some (record { size = size; file = p .file; code = p .code; element = p .element }, rest)
 unfolding header twoAddresses then
 header-back fn size p rest hf he =

@@ -12,15 +12,15 @@ use Rattle.file_type.specs.declared.FileType.{FileType}
 use Rattle.file_type.specs.declared.FileType.the-variants.{O, I, S, B, T, C, R, N, F, ST, A, L, MG, PD, PLS}
 use Rattle.file_type.specs.declared.Known.the-variants as known
 use Rattle.file_type.specs.Table.{row, ofCode}
-use Rattle.file_type.proofs.Table.{own-code}
+use Rattle.file_type.proofs.FileTypes.{own-code}
 use Rattle.address_spec.specs.declared.Address.{Address}
 use Rattle.address_spec.specs.declared.Parsed.{Parsed}
 use Rattle.address_spec.specs.declared.Parsed.the-variants as parsed
 use Rattle.address_spec.specs.Elements.{Elements, elementsOf, filed, slotted, allowed, spellable}
 use Rattle.address_spec.specs.Spelling.{addressOf}
 use Rattle.address_spec.proofs.Ranges.{can}
-use Rattle.request_frame.specs.Frame.{addressField, commandHead, twoAddresses, threeAddresses, typed}
-use Rattle.request_frame.specs.declared.Place.{Place}
+use Rattle.request_frame.specs.RequestFrame.{addressField, commandHead, twoAddresses, threeAddresses, typed}
+use Rattle.request_frame.specs.declared.Target.{Target}
 use Rattle.request_frame.specs.declared.Requestor.{Requestor}
 use Rattle.request_spec.specs.Request.{Asked, refused, sends, bitAndCount, place, readSize, readMessage, readAddress, onAddress, reading}
 use Rattle.processor_spec.specs.Params.{Header, header, address}

@@ -10,9 +10,9 @@ use Rattle.address_spec.specs.declared.Address.{Address}
 use Rattle.address_spec.specs.declared.Parsed.{Parsed}
 use Rattle.address_spec.specs.declared.Parsed.the-variants as parsed
 use Rattle.address_spec.specs.Spelling.{addressOf, orZero}
-use Rattle.request_frame.specs.Frame.{defaultRequestor}
-use Rattle.request_spec.specs.declared.Value.{Value}
-use Rattle.request_spec.specs.declared.Value.the-variants as value
+use Rattle.request_frame.specs.RequestFrame.{defaultRequestor}
+use Rattle.request_spec.specs.declared.WriteValue.{WriteValue}
+use Rattle.request_spec.specs.declared.WriteValue.the-variants as value
 use Rattle.request_spec.specs.Request.{Asked, refused, sends, reading, writing}
 use Rattle.processor_spec.specs.Worked.{w9, w10, w11}
 
@@ -30,7 +30,7 @@ sent from n (sends x bs) = gives (take n (drop from bs))
 abbrev reads : ℕ → ℕ → String → Result
 reads from n tag = sent from n (reading (bytes tag) defaultRequestor 0x1234 (replicate 27 0))
 
-abbrev writes : ℕ → ℕ → String → Value → String → Result
+abbrev writes : ℕ → ℕ → String → WriteValue → String → Result
 writes from n tag v text = sent from n (writing (bytes tag) v (bytes text) defaultRequestor 0x1234 (replicate 284 0))
 
 -- type code, file, element, sub-element

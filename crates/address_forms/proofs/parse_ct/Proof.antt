@@ -1,7 +1,7 @@
 use Rattle.address_spec.specs.Spelling.{ct}
-use Rattle.parser.proofs.Reading.{above, at-most}
+use Rattle.parser.proofs.PartReaders.{above, at-most}
 use Rattle.address_spec.proofs.Forms.{no-form, a-form}
-use Rattle.address_spec.proofs.Reading.{forms}
+use Rattle.address_spec.proofs.FormReaders.{forms}
 use borrow.Author.Needs.{needs}
 use Rattle.address_forms.proofs.parse_ct.Statement.{statement}
 use Rattle.address_forms.proofs.parse_ct.Tie as tie

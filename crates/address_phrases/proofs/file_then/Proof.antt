@@ -1,5 +1,5 @@
 use Rattle.address_spec.specs.Spelling.{fileBefore}
-use Rattle.address_spec.proofs.Reading.{forms}
+use Rattle.address_spec.proofs.FormReaders.{forms}
 use borrow.Author.Needs.{needs}
 use Rattle.address_phrases.proofs.file_then.Statement.{statement}
 use Rattle.address_phrases.proofs.file_then.Tie as tie

@@ -1,5 +1,5 @@
 use Rattle.address_spec.proofs.Forms.{ignored-none, ignored-some}
-use Rattle.address_spec.proofs.Reading.{forms}
+use Rattle.address_spec.proofs.FormReaders.{forms}
 use borrow.Author.Needs.{needs}
 use Rattle.address_phrases.proofs.ignore_number.Statement.{statement}
 use Rattle.address_phrases.proofs.ignore_number.Tie as tie

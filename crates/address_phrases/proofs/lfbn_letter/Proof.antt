@@ -1,4 +1,4 @@
-use Rattle.address_spec.proofs.Reading.{forms}
+use Rattle.address_spec.proofs.FormReaders.{forms}
 use borrow.Author.Needs.{needs}
 use Rattle.address_phrases.proofs.lfbn_letter.Statement.{statement}
 use Rattle.address_phrases.proofs.lfbn_letter.Tie as tie

@@ -1,6 +1,6 @@
 use Rattle.address_spec.specs.Spelling.{stOrA}
 use Rattle.address_spec.proofs.Forms.{only-a, only-st}
-use Rattle.address_spec.proofs.Reading.{forms}
+use Rattle.address_spec.proofs.FormReaders.{forms}
 use borrow.Author.Needs.{needs}
 use Rattle.address_phrases.proofs.st_or_a.Statement.{statement}
 use Rattle.address_phrases.proofs.st_or_a.Tie as tie

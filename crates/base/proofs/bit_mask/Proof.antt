@@ -1,4 +1,4 @@
-use Rattle.base.proofs.Masked.{mask-there, mask-none}
+use Rattle.base.proofs.Masks.{mask-there, mask-none}
 use borrow.Author.Needs.{needs}
 use Rattle.base.proofs.bit_mask.Statement.{statement}
 use Rattle.base.proofs.bit_mask.Tie as tie

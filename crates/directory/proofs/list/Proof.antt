@@ -1,4 +1,4 @@
-use Rattle.directory.proofs.Listing.{no-room, all-laid}
+use Rattle.directory.proofs.ListedFiles.{no-room, all-laid}
 use borrow.Author.Needs.{needs}
 use Rattle.directory.proofs.list.Statement.{statement}
 use Rattle.directory.proofs.list.Tie as tie

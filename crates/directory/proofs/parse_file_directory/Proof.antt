@@ -1,4 +1,4 @@
-use Rattle.directory.proofs.Listing.{too-long, no-size, cut-row, found, found-listed}
+use Rattle.directory.proofs.ListedFiles.{too-long, no-size, cut-row, found, found-listed}
 use borrow.Author.Needs.{needs}
 use Rattle.directory.proofs.parse_file_directory.Statement.{statement}
 use Rattle.directory.proofs.parse_file_directory.Tie as tie

@@ -1,4 +1,4 @@
-use Rattle.directory_row.proofs.Fields.{some-size, elements-fit, elements-are}
+use Rattle.directory_row.proofs.RowFields.{some-size, elements-fit, elements-are}
 use borrow.Author.Needs.{needs}
 use Rattle.directory_row.proofs.elements.Statement.{statement}
 use Rattle.directory_row.proofs.elements.Tie as tie

@@ -1,4 +1,4 @@
-use Rattle.directory_row.proofs.Fields.{cut-past, cut-short, file-there}
+use Rattle.directory_row.proofs.RowFields.{cut-past, cut-short, file-there}
 use borrow.Author.Needs.{needs}
 use Rattle.directory_row.proofs.file_row.Statement.{statement}
 use Rattle.directory_row.proofs.file_row.Tie as tie

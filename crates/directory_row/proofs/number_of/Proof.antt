@@ -1,4 +1,4 @@
-use Rattle.directory_row.proofs.Fields.{number-kept, number-one, number-zero}
+use Rattle.directory_row.proofs.RowFields.{number-kept, number-one, number-zero}
 use borrow.Author.Needs.{needs}
 use Rattle.directory_row.proofs.number_of.Statement.{statement}
 use Rattle.directory_row.proofs.number_of.Tie as tie

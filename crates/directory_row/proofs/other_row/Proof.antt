@@ -1,5 +1,5 @@
 use borrow.Author.Needs.{needs}
-use Rattle.directory_row.proofs.Fields.{is-reserved, is-other}
+use Rattle.directory_row.proofs.RowFields.{is-reserved, is-other}
 use Rattle.directory_row.proofs.other_row.Statement.{statement}
 use Rattle.directory_row.proofs.other_row.Tie as tie
 

@@ -1,4 +1,4 @@
-use Rattle.directory_size.proofs.Sizes.{no-word, difference-fits, size-is}
+use Rattle.directory_size.proofs.SizeIs.{no-word, difference-fits, size-is}
 use borrow.Author.Needs.{needs}
 use Rattle.directory_size.proofs.parse_file_directory_size.Statement.{statement}
 use Rattle.directory_size.proofs.parse_file_directory_size.Tie as tie

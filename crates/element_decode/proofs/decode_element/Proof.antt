@@ -1,5 +1,5 @@
-use Rattle.element_decode.proofs.Reading.{get-by, get-other, get-plain, get-short}
-use Rattle.element_spec.specs.declared.kind.Kind.the-variants as kind
+use Rattle.element_decode.proofs.DecodeAnswers.{get-by, get-other, get-plain, get-short}
+use Rattle.element_spec.specs.declared.kind.ElementKind.the-variants as kind
 use Rattle.element_spec.proofs.ByKind.{room-for}
 use borrow.Author.Needs.{needs}
 use Rattle.element_decode.proofs.decode_element.Statement.{statement}

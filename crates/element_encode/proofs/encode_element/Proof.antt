@@ -1,4 +1,4 @@
-use Rattle.element_spec.specs.declared.kind.Kind.the-variants as kind
+use Rattle.element_spec.specs.declared.kind.ElementKind.the-variants as kind
 use Rattle.element_spec.proofs.ByKind.{room-for, set-short, set-by, set-other}
 use borrow.Author.Needs.{needs}
 use Rattle.element_encode.proofs.encode_element.Statement.{statement}

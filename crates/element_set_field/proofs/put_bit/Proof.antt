@@ -1,4 +1,4 @@
-use Rattle.element_set_field.proofs.Fields.{bit-stored}
+use Rattle.element_set_field.proofs.SetField.{bit-stored}
 use borrow.Author.Needs.{needs}
 use Rattle.element_set_field.proofs.put_bit.Statement.{statement}
 use Rattle.element_set_field.proofs.put_bit.Tie as tie

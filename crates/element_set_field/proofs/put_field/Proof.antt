@@ -1,5 +1,5 @@
 use native.Mathlib.Omega.{arith}
-use Rattle.element_set_field.proofs.Fields.{field-unknown, field-word, field-bit}
+use Rattle.element_set_field.proofs.SetField.{field-unknown, field-word, field-bit}
 use borrow.Author.Needs.{needs}
 use Rattle.element_set_field.proofs.put_field.Statement.{statement}
 use Rattle.element_set_field.proofs.put_field.Tie as tie

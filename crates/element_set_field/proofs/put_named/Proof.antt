@@ -1,4 +1,4 @@
-use Rattle.element_set_field.proofs.Fields.{named-placed, named-stored}
+use Rattle.element_set_field.proofs.SetField.{named-placed, named-stored}
 use borrow.Author.Needs.{needs}
 use Rattle.element_set_field.proofs.put_named.Statement.{statement}
 use Rattle.element_set_field.proofs.put_named.Tie as tie

@@ -1,4 +1,4 @@
-use Rattle.element_set_field.proofs.Fields.{whole-out, whole-in}
+use Rattle.element_set_field.proofs.SetField.{whole-out, whole-in}
 use borrow.Author.Needs.{needs}
 use Rattle.element_set_field.proofs.put_whole.Statement.{statement}
 use Rattle.element_set_field.proofs.put_whole.Tie as tie

@@ -1,4 +1,4 @@
-use Rattle.element_set_text.proofs.Texts.{ascii-stored}
+use Rattle.element_set_text.proofs.SetText.{ascii-stored}
 use borrow.Author.Needs.{needs}
 use Rattle.element_set_text.proofs.put_ascii.Statement.{statement}
 use Rattle.element_set_text.proofs.put_ascii.Tie as tie

@@ -1,4 +1,4 @@
-use Rattle.element_set_text.proofs.Texts.{line-long, line-stored}
+use Rattle.element_set_text.proofs.SetText.{line-long, line-stored}
 use borrow.Author.Needs.{needs}
 use Rattle.element_set_text.proofs.put_line.Statement.{statement}
 use Rattle.element_set_text.proofs.put_line.Tie as tie

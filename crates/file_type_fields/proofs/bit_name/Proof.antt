@@ -1,4 +1,4 @@
-use Rattle.file_type.proofs.Fields.{no-bit, a-bit}
+use Rattle.file_type.proofs.FieldNames.{no-bit, a-bit}
 use borrow.Author.Needs.{needs}
 use Rattle.file_type_fields.proofs.bit_name.Statement.{statement}
 use Rattle.file_type_fields.proofs.bit_name.Tie as tie

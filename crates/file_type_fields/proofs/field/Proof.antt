@@ -3,7 +3,7 @@ use Prim.Native.Nat.{_-_}
 use mathlib.Core.Path.{_≡_, refl}
 use lib.ListN.{length, drop}
 use Rattle.file_type.specs.Table.{fieldNames, place}
-use Rattle.file_type.proofs.Fields.{below-ten, found, not-found, found-none}
+use Rattle.file_type.proofs.FieldNames.{below-ten, found, not-found, found-none}
 use Rattle.file_type_fields.proofs.field.Statement.{statement}
 use Rattle.file_type_fields.proofs.field.Tie as tie
 

@@ -1,4 +1,4 @@
-use Rattle.file_type.proofs.Fields.{at-word, at-bit}
+use Rattle.file_type.proofs.FieldNames.{at-word, at-bit}
 use borrow.Author.Needs.{needs}
 use Rattle.file_type_fields.proofs.field_at.Statement.{statement}
 use Rattle.file_type_fields.proofs.field_at.Tie as tie

@@ -1,7 +1,7 @@
 use Prim.Native.Nat.{_+_, _<_}
 use native.Mathlib.Omega.{arith}
 use borrow.Author.Needs.{needs}
-use Rattle.file_type.proofs.Fields.{within-call, no-field, word-field, bit-field}
+use Rattle.file_type.proofs.FieldNames.{within-call, no-field, word-field, bit-field}
 use Rattle.file_type_fields.proofs.field_name.Statement.{statement}
 use Rattle.file_type_fields.proofs.field_name.Tie as tie
 

@@ -1,4 +1,4 @@
-use Rattle.file_type.proofs.Fields.{no-word, a-word}
+use Rattle.file_type.proofs.FieldNames.{no-word, a-word}
 use borrow.Author.Needs.{needs}
 use Rattle.file_type_fields.proofs.word_name.Statement.{statement}
 use Rattle.file_type_fields.proofs.word_name.Tie as tie

@@ -1,4 +1,4 @@
-use Rattle.link_element_access.proofs.Accesses.{there-sound, there-unsound}
+use Rattle.link_element_access.proofs.AccessByCode.{there-sound, there-unsound}
 use borrow.Author.Needs.{needs}
 use Rattle.link_element_access.proofs.no_type.Statement.{statement}
 use Rattle.link_element_access.proofs.no_type.Tie as tie

@@ -1,4 +1,4 @@
-use Rattle.link_element_access.proofs.Accesses.{read-known, read-unknown}
+use Rattle.link_element_access.proofs.AccessByCode.{read-known, read-unknown}
 use borrow.Author.Needs.{needs}
 use Rattle.link_element_access.proofs.read_element.Statement.{statement}
 use Rattle.link_element_access.proofs.read_element.Tie as tie

@@ -1,4 +1,4 @@
-use Rattle.link_element_access.proofs.Accesses.{set-known, set-unknown}
+use Rattle.link_element_access.proofs.AccessByCode.{set-known, set-unknown}
 use borrow.Author.Needs.{needs}
 use Rattle.link_element_access.proofs.set_element.Statement.{statement}
 use Rattle.link_element_access.proofs.set_element.Tie as tie

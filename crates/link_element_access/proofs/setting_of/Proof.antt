@@ -1,4 +1,4 @@
-use Rattle.link_element_access.proofs.Accesses.{is-setting}
+use Rattle.link_element_access.proofs.AccessByCode.{is-setting}
 use borrow.Author.Needs.{needs}
 use Rattle.link_element_access.proofs.setting_of.Statement.{statement}
 use Rattle.link_element_access.proofs.setting_of.Tie as tie

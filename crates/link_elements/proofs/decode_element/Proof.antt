@@ -1,4 +1,4 @@
-use Rattle.link_elements.proofs.Numbers.{in-numbers}
+use Rattle.link_elements.proofs.ElementRecords.{in-numbers}
 use borrow.Author.Needs.{needs}
 use Rattle.link_elements.proofs.decode_element.Statement.{statement}
 use Rattle.link_elements.proofs.decode_element.Tie as tie

@@ -1,4 +1,4 @@
-use Rattle.link_elements.proofs.Numbers.{encoded-in}
+use Rattle.link_elements.proofs.ElementRecords.{encoded-in}
 use borrow.Author.Needs.{needs}
 use Rattle.link_elements.proofs.encode_element.Statement.{statement}
 use Rattle.link_elements.proofs.encode_element.Tie as tie

@@ -1,4 +1,4 @@
-use Rattle.link_elements.proofs.Numbers.{told-fields}
+use Rattle.link_elements.proofs.ElementRecords.{told-fields}
 use borrow.Author.Needs.{needs}
 use Rattle.link_elements.proofs.fields.Statement.{statement}
 use Rattle.link_elements.proofs.fields.Tie as tie

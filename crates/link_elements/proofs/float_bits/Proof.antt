@@ -1,4 +1,4 @@
-use Rattle.link_elements.proofs.Numbers.{told-float}
+use Rattle.link_elements.proofs.ElementRecords.{told-float}
 use borrow.Author.Needs.{needs}
 use Rattle.link_elements.proofs.float_bits.Statement.{statement}
 use Rattle.link_elements.proofs.float_bits.Tie as tie

@@ -1,4 +1,4 @@
-use Rattle.link_elements.proofs.Numbers.{half-negative, half-positive}
+use Rattle.link_elements.proofs.ElementRecords.{half-negative, half-positive}
 use borrow.Author.Needs.{needs}
 use Rattle.link_elements.proofs.low_half.Statement.{statement}
 use Rattle.link_elements.proofs.low_half.Tie as tie

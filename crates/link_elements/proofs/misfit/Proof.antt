@@ -1,5 +1,5 @@
-use Rattle.element_spec.specs.declared.kind.Kind.the-variants as kind
-use Rattle.link_elements.proofs.Numbers.{is-misfit}
+use Rattle.element_spec.specs.declared.kind.ElementKind.the-variants as kind
+use Rattle.link_elements.proofs.ElementRecords.{is-misfit}
 use borrow.Author.Needs.{needs}
 use Rattle.link_elements.proofs.misfit.Statement.{statement}
 use Rattle.link_elements.proofs.misfit.Tie as tie

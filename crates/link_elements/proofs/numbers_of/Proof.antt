@@ -1,4 +1,4 @@
-use Rattle.link_elements.proofs.Numbers.{read-refused, read-whole, read-plain, read-fields}
+use Rattle.link_elements.proofs.ElementRecords.{read-refused, read-whole, read-plain, read-fields}
 use borrow.Author.Needs.{needs}
 use Rattle.link_elements.proofs.numbers_of.Statement.{statement}
 use Rattle.link_elements.proofs.numbers_of.Tie as tie

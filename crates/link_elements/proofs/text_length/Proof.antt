@@ -1,4 +1,4 @@
-use Rattle.link_elements.proofs.Numbers.{told-text}
+use Rattle.link_elements.proofs.ElementRecords.{told-text}
 use borrow.Author.Needs.{needs}
 use Rattle.link_elements.proofs.text_length.Statement.{statement}
 use Rattle.link_elements.proofs.text_length.Tie as tie

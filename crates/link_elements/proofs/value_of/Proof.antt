@@ -1,4 +1,4 @@
-use Rattle.link_elements.proofs.Numbers.{value-whole, value-float, value-text, value-words, value-field, value-other}
+use Rattle.link_elements.proofs.ElementRecords.{value-whole, value-float, value-text, value-words, value-field, value-other}
 use borrow.Author.Needs.{needs}
 use Rattle.link_elements.proofs.value_of.Statement.{statement}
 use Rattle.link_elements.proofs.value_of.Tie as tie

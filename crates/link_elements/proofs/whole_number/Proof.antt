@@ -1,4 +1,4 @@
-use Rattle.link_elements.proofs.Numbers.{told-whole}
+use Rattle.link_elements.proofs.ElementRecords.{told-whole}
 use borrow.Author.Needs.{needs}
 use Rattle.link_elements.proofs.whole_number.Statement.{statement}
 use Rattle.link_elements.proofs.whole_number.Tie as tie

@@ -1,4 +1,4 @@
-use Rattle.link_texts.proofs.Laying.{entry}
+use Rattle.link_texts.proofs.LaidTexts.{entry}
 use borrow.Author.Needs.{needs}
 use Rattle.link_texts.proofs.datalog_part.Statement.{statement}
 use Rattle.link_texts.proofs.datalog_part.Tie as tie

@@ -1,4 +1,4 @@
-use Rattle.link_texts.proofs.Laying.{no-room, laid}
+use Rattle.link_texts.proofs.LaidTexts.{no-room, laid}
 use borrow.Author.Needs.{needs}
 use Rattle.link_texts.proofs.laid.Statement.{statement}
 use Rattle.link_texts.proofs.laid.Tie as tie

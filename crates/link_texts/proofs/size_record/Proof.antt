@@ -1,5 +1,5 @@
-use Rattle.link_texts.specs.Written.{sizeRecord}
-use Rattle.link_types.proofs.Records.{case}
+use Rattle.link_texts.specs.WrittenRecords.{sizeRecord}
+use Rattle.link_types.proofs.TypeRecords.{case}
 use borrow.Author.Needs.{needs}
 use Rattle.link_texts.proofs.size_record.Statement.{statement}
 use Rattle.link_texts.proofs.size_record.Tie as tie

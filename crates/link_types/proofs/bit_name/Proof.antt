@@ -1,5 +1,5 @@
 use Rattle.link_types.specs.Types.{bitNameIn}
-use Rattle.link_types.proofs.Records.{named, not-named}
+use Rattle.link_types.proofs.TypeRecords.{named, not-named}
 use borrow.Author.Needs.{needs}
 use Rattle.link_types.proofs.bit_name.Statement.{statement}
 use Rattle.link_types.proofs.bit_name.Tie as tie

@@ -1,4 +1,4 @@
-use Rattle.link_types.proofs.Records.{field-known, field-unknown}
+use Rattle.link_types.proofs.TypeRecords.{field-known, field-unknown}
 use borrow.Author.Needs.{needs}
 use Rattle.link_types.proofs.field_of.Statement.{statement}
 use Rattle.link_types.proofs.field_of.Tie as tie

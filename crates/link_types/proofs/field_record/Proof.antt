@@ -1,5 +1,5 @@
 use Rattle.link_types.specs.Types.{fieldRecord}
-use Rattle.link_types.proofs.Records.{case}
+use Rattle.link_types.proofs.TypeRecords.{case}
 use borrow.Author.Needs.{needs}
 use Rattle.link_types.proofs.field_record.Statement.{statement}
 use Rattle.link_types.proofs.field_record.Tie as tie

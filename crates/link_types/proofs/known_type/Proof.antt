@@ -1,4 +1,4 @@
-use Rattle.link_types.proofs.Records.{size-fits, bits-fit, known-type}
+use Rattle.link_types.proofs.TypeRecords.{size-fits, bits-fit, known-type}
 use borrow.Author.Needs.{needs}
 use Rattle.link_types.proofs.known_type.Statement.{statement}
 use Rattle.link_types.proofs.known_type.Tie as tie

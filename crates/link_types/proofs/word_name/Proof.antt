@@ -1,5 +1,5 @@
 use Rattle.link_types.specs.Types.{wordNameIn}
-use Rattle.link_types.proofs.Records.{named, not-named}
+use Rattle.link_types.proofs.TypeRecords.{named, not-named}
 use borrow.Author.Needs.{needs}
 use Rattle.link_types.proofs.word_name.Statement.{statement}
 use Rattle.link_types.proofs.word_name.Tie as tie

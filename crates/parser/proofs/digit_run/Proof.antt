@@ -1,8 +1,8 @@
 use Prim.Native.Nat.{_+_, _-_, _≤_, min}
 use mathlib.Core.Path.{_≡_}
 use lib.ListN.{length, drop}
-use Rattle.parser_spec.specs.Numbers.{digitRun}
-use Rattle.parser.proofs.Numbers.{run-end, run-stop, run-more}
+use Rattle.parser_spec.specs.DecimalNumbers.{digitRun}
+use Rattle.parser.proofs.DecimalNumbers.{run-end, run-stop, run-more}
 use borrow.Author.Needs.{needs}
 use Rattle.parser.proofs.digit_run.Statement.{statement}
 use Rattle.parser.proofs.digit_run.Tie as tie

@@ -1,4 +1,4 @@
-use Rattle.parser.proofs.Numbers.{low-value, high-value, value}
+use Rattle.parser.proofs.DecimalNumbers.{low-value, high-value, value}
 use borrow.Author.Needs.{needs}
 use Rattle.parser.proofs.digit_value.Statement.{statement}
 use Rattle.parser.proofs.digit_value.Tie as tie

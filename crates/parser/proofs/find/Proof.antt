@@ -2,7 +2,7 @@ use Prim.Native.Nat.{_+_, _-_, _≤_, min}
 use mathlib.Core.Path.{_≡_}
 use lib.ListN.{length, drop}
 use Rattle.parser_spec.specs.Parts.{beforeByte}
-use Rattle.parser.proofs.Numbers.{before-end, before-here, before-more}
+use Rattle.parser.proofs.DecimalNumbers.{before-end, before-here, before-more}
 use borrow.Author.Needs.{needs}
 use Rattle.parser.proofs.find.Statement.{statement}
 use Rattle.parser.proofs.find.Tie as tie

@@ -1,4 +1,4 @@
-use Rattle.parser.proofs.Numbers.{not-digit, may-digit}
+use Rattle.parser.proofs.DecimalNumbers.{not-digit, may-digit}
 use borrow.Author.Needs.{needs}
 use Rattle.parser.proofs.is_digit.Statement.{statement}
 use Rattle.parser.proofs.is_digit.Tie as tie

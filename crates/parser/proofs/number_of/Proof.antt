@@ -2,8 +2,8 @@ use native.Mathlib.Omega.{arith}
 use Prim.Native.Nat.{_+_, _-_, _≤_, min}
 use mathlib.Core.Path.{_≡_}
 use lib.ListN.{length, drop}
-use Rattle.parser_spec.specs.Numbers.{decimal, most, numberOf}
-use Rattle.parser.proofs.Numbers.{number-start, number-end, number-more}
+use Rattle.parser_spec.specs.DecimalNumbers.{decimal, most, numberOf}
+use Rattle.parser.proofs.DecimalNumbers.{number-start, number-end, number-more}
 use borrow.Author.Needs.{needs}
 use Rattle.parser.proofs.number_of.Statement.{statement}
 use Rattle.parser.proofs.number_of.Tie as tie

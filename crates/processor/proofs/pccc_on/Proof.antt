@@ -1,4 +1,4 @@
--- `processor::pccc_on` lends its array to `pccc` (crate `shapes`, `Bridging.antt`).
+-- `processor::pccc_on` lends its array to `pccc` (processor_walks, `Bridging.antt`).
 use contract.Running.{givenOf, tables, tablesOf}
 use denote.Triple.Spec.{tripleOf}
 use denote.Triple.Table.{entered, cited}

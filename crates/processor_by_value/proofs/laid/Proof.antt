@@ -3,7 +3,7 @@ use mathlib.Core.Path.{_≡_, refl, ap, _∙_}
 use native.Mathlib.Omega.{arith}
 use borrow.Author.Needs.{needs}
 use Rattle.processor_build_spec.specs.Plans.{stored}
-use Rattle.processor_by_value.proofs.Rows.{blank, none-yet, one-more, in-all}
+use Rattle.processor_by_value.proofs.RecordsByValue.{blank, none-yet, one-more, in-all}
 use Rattle.processor_by_value.proofs.laid.Statement.{statement}
 use Rattle.processor_by_value.proofs.laid.Tie as tie
 
@@ -14,7 +14,7 @@ abbrev μ-loop : tie.MeasureT-loop
 μ-loop files count rows₀ m i₀ rows i = m - i
 
 loop-holds : tie.Need-loop-holds Inv-loop μ-loop
-loop-holds c = (omega arith, c .lesser .ensures, none-yet _)
+loop-holds c = (omega arith, c .least .ensures, none-yet _)
 
 loop-again : tie.Need-loop-again Inv-loop μ-loop
 loop-again c =

@@ -1,4 +1,4 @@
-use Rattle.processor_by_value.proofs.Elements.{reads}
+use Rattle.processor_by_value.proofs.AccessByValue.{reads}
 use borrow.Author.Needs.{needs}
 use Rattle.processor_by_value.proofs.read_on.Statement.{statement}
 use Rattle.processor_by_value.proofs.read_on.Tie as tie

@@ -1,4 +1,4 @@
-use Rattle.processor_by_value.proofs.Elements.{sets}
+use Rattle.processor_by_value.proofs.AccessByValue.{sets}
 use borrow.Author.Needs.{needs}
 use Rattle.processor_by_value.proofs.set_on.Statement.{statement}
 use Rattle.processor_by_value.proofs.set_on.Tie as tie

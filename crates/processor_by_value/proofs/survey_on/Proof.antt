@@ -3,7 +3,7 @@ use mathlib.Core.Path.{_≡_, refl}
 use native.Mathlib.Omega.{arith}
 use borrow.Author.Needs.{needs}
 use lib.ListN.{length}
-use Rattle.processor_by_value.proofs.Rows.{Left, survey-first, survey-next, survey-last}
+use Rattle.processor_by_value.proofs.RecordsByValue.{Left, survey-first, survey-next, survey-last}
 use Rattle.processor_by_value.proofs.survey_on.Statement.{statement}
 use Rattle.processor_by_value.proofs.survey_on.Tie as tie
 
@@ -14,7 +14,7 @@ abbrev μ-loop : tie.MeasureT-loop
 μ-loop n number rows m s₀ i₀ s i = m - i
 
 loop-holds : tie.Need-loop-holds Inv-loop μ-loop
-loop-holds c = (omega arith, c .before .lesser .ensures, survey-first _ _ _ _ (c .begin .ensures))
+loop-holds c = (omega arith, c .before .least .ensures, survey-first _ _ _ _ (c .begin .ensures))
 
 loop-again : tie.Need-loop-again Inv-loop μ-loop
 loop-again c =

@@ -1,12 +1,12 @@
--- `listing::directory` fills an array (`Filling.antt`), with `begin` for its beginning and `store` for its store.
+-- `processor_directory::directory` fills an array (`Filling.antt`), with `begin` for its beginning and `store` for its store.
 use mathlib.Core.Path.{refl}
 use contract.Running.{givenOf, tables, tablesOf}
 use denote.Triple.Spec.{tripleOf}
 use denote.Triple.Table.{entered, cited}
 use Rattle.processor_table.proofs.Surveying.{Bounds}
-use Rattle.processor_table.proofs.lesser.Symbol as bound-def
-use Rattle.processor_table.proofs.lesser.Symbol.{name as #processor-table·lesser}
-use Rattle.processor_table.proofs.lesser.Met as bound-thm
+use Rattle.base.proofs.least.Symbol as bound-def
+use Rattle.base.proofs.least.Symbol.{name as #base·least}
+use Rattle.base.proofs.least.Met as bound-thm
 use Rattle.processor_directory.specs.Listing.{beginOf, storeOf, directoryOf}
 use Rattle.processor_directory.proofs.Filling.{Begins, Puts, Fits, fill-meets}
 use Rattle.processor_directory.proofs.begin.Symbol as begin-def
@@ -29,7 +29,7 @@ unfolding code.routine tablesOf
 directory-spec 𝓤 H 𝓜 𝓖 𝓡 =
     entered 𝓤 H (tripleOf 𝓤 H (𝓖 .A) self.signature (self.spec 𝓤 H (𝓖 .A) (𝓜 .mem) (𝓡 .run)))
     (tables 𝓤 H 𝓜 𝓡 code.env .C) (tables 𝓤 H 𝓜 𝓡 code.env .Λ) #processor-directory·directory code.function (code.unfolded 𝓤 H 𝓜 𝓡)
-    (fill-meets beginOf storeOf directoryOf right #processor-table·lesser #processor-directory·begin #processor-directory·store 𝓤 H (𝓖 .A) (givenOf 𝓤 H 𝓜 𝓖) (tablesOf 𝓤 H 𝓜 (tables 𝓤 H 𝓜 𝓡 code.env))
-    (cited 𝓤 H (Bounds 𝓤 H (𝓖 .A)) 𝓜 𝓡 code.env #processor-table·lesser bound-def.routine code.calls-processor-table·lesser (bound-thm.met 𝓤 H 𝓜 𝓖 𝓡))
+    (fill-meets beginOf storeOf directoryOf right #base·least #processor-directory·begin #processor-directory·store 𝓤 H (𝓖 .A) (givenOf 𝓤 H 𝓜 𝓖) (tablesOf 𝓤 H 𝓜 (tables 𝓤 H 𝓜 𝓡 code.env))
+    (cited 𝓤 H (Bounds 𝓤 H (𝓖 .A)) 𝓜 𝓡 code.env #base·least bound-def.routine code.calls-base·least (bound-thm.met 𝓤 H 𝓜 𝓖 𝓡))
     (cited 𝓤 H (Begins 𝓤 H (𝓖 .A) beginOf) 𝓜 𝓡 code.env #processor-directory·begin begin-def.routine code.calls-processor-directory·begin (begin-thm.met 𝓤 H 𝓜 𝓖 𝓡))
     (cited 𝓤 H (Puts 𝓤 H (𝓖 .A) storeOf) 𝓜 𝓡 code.env #processor-directory·store store-def.routine code.calls-processor-directory·store (store-thm.met 𝓤 H 𝓜 𝓖 𝓡)))

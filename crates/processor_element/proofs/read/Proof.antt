@@ -1,12 +1,12 @@
--- `access::read` surveys the table and hands what it has to `read_element` (`Accessing.antt`).
+-- `processor_element::read` surveys the table and hands what it has to `read_element` (`Accessing.antt`).
 use mathlib.Core.Path.{subst}
 use mathlib.Core.List.{List}
 use lib.ListN.{length}
 use Rattle.element_spec.specs.Decode.{Says as Tells, Reads}
-use Rattle.processor_spec.specs.Elements.{readOf}
+use Rattle.processor_spec.specs.ElementAccess.{readOf}
 use Rattle.processor_spec.specs.Plain.{stateOf}
-use Rattle.processor_element_core.specs.Access.{readBy}
-use Rattle.processor_element_core.proofs.Right.{read-is}
+use Rattle.processor_element_core.specs.AccessBySurvey.{readBy}
+use Rattle.processor_element_core.proofs.AccessIs.{read-is}
 use contract.Running.{givenOf, tables, tablesOf}
 use denote.Triple.Spec.{tripleOf}
 use denote.Triple.Table.{entered, cited}
@@ -16,7 +16,7 @@ use Rattle.processor_element_core.proofs.read_element.Met as core-thm
 use Rattle.processor_table.proofs.survey.Symbol as survey-def
 use Rattle.processor_table.proofs.survey.Symbol.{name as #processor-table·survey}
 use Rattle.processor_table.proofs.survey.Met as survey-thm
-use Rattle.processor_walks.proofs.Asking.{Surveys}
+use Rattle.processor_walks.proofs.Callees.{Surveys}
 use Rattle.processor_element.proofs.Accessing.{Said, Says, Fits, Cores, access-meets}
 use Rattle.processor_element.proofs.Wanting.{spot, element}
 use Rattle.processor_element.proofs.read.Key.{name as #processor-element·read}

@@ -1,11 +1,11 @@
--- `access::set` surveys the table and hands what it has to `set_element` (`Accessing.antt`).
+-- `processor_element::set` surveys the table and hands what it has to `set_element` (`Accessing.antt`).
 use mathlib.Core.Path.{subst}
 use Rattle.base.specs.Outcome.{Outcome}
 use Rattle.element_spec.specs.Encode.{Stores}
-use Rattle.processor_spec.specs.Elements.{setOf}
+use Rattle.processor_spec.specs.ElementAccess.{setOf}
 use Rattle.processor_spec.specs.Plain.{stateOf}
-use Rattle.processor_element_core.specs.Access.{setBy}
-use Rattle.processor_element_core.proofs.Right.{set-is}
+use Rattle.processor_element_core.specs.AccessBySurvey.{setBy}
+use Rattle.processor_element_core.proofs.AccessIs.{set-is}
 use contract.Running.{givenOf, tables, tablesOf}
 use denote.Triple.Spec.{tripleOf}
 use denote.Triple.Table.{entered, cited}
@@ -15,7 +15,7 @@ use Rattle.processor_element_core.proofs.set_element.Met as core-thm
 use Rattle.processor_table.proofs.survey.Symbol as survey-def
 use Rattle.processor_table.proofs.survey.Symbol.{name as #processor-table·survey}
 use Rattle.processor_table.proofs.survey.Met as survey-thm
-use Rattle.processor_walks.proofs.Asking.{Surveys}
+use Rattle.processor_walks.proofs.Callees.{Surveys}
 use Rattle.processor_element.proofs.Accessing.{Said, Says, Fits, Cores, access-meets}
 use Rattle.processor_element.proofs.Wanting.{setting, stored}
 use Rattle.processor_element.proofs.set.Key.{name as #processor-element·set}

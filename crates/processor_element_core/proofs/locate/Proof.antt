@@ -1,4 +1,4 @@
-use Rattle.processor_element_core.proofs.Places.{no-file, other-type, size-divides, past-end, offset-fits, place-fits, place-is}
+use Rattle.processor_element_core.proofs.ElementPlaces.{no-file, other-type, size-divides, past-end, offset-fits, place-fits, place-is}
 use borrow.Author.Needs.{needs}
 use Rattle.processor_element_core.proofs.locate.Statement.{statement}
 use Rattle.processor_element_core.proofs.locate.Tie as tie

@@ -1,4 +1,4 @@
-use Rattle.processor_element_core.proofs.Accesses.{read-unsound, read-none, read-there}
+use Rattle.processor_element_core.proofs.ReadAndSet.{read-unsound, read-none, read-there}
 use borrow.Author.Needs.{needs}
 use Rattle.processor_element_core.proofs.read_element.Statement.{statement}
 use Rattle.processor_element_core.proofs.read_element.Tie as tie

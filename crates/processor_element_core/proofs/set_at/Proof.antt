@@ -1,4 +1,4 @@
-use Rattle.processor_element_core.proofs.Accesses.{set-past, set-short, set-done}
+use Rattle.processor_element_core.proofs.ReadAndSet.{set-past, set-short, set-done}
 use borrow.Author.Needs.{needs}
 use Rattle.processor_element_core.proofs.set_at.Statement.{statement}
 use Rattle.processor_element_core.proofs.set_at.Tie as tie

@@ -1,4 +1,4 @@
-use Rattle.processor_element_core.proofs.Accesses.{set-unsound, set-none, set-there}
+use Rattle.processor_element_core.proofs.ReadAndSet.{set-unsound, set-none, set-there}
 use borrow.Author.Needs.{needs}
 use Rattle.processor_element_core.proofs.set_element.Statement.{statement}
 use Rattle.processor_element_core.proofs.set_element.Tie as tie

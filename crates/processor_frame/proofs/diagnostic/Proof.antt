@@ -1,4 +1,4 @@
-use Rattle.processor_frame.proofs.Status.{text-length, status-data}
+use Rattle.processor_frame.proofs.DiagnosticData.{text-length, status-data}
 use borrow.Author.Needs.{needs}
 use Rattle.processor_frame.proofs.diagnostic.Statement.{statement}
 use Rattle.processor_frame.proofs.diagnostic.Tie as tie

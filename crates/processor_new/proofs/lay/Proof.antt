@@ -1,4 +1,4 @@
--- `slc_new::lay` stores the records that `record_of` makes (crate `shapes`, `Laying.antt`).
+-- `processor_new::lay` stores the records that `record_of` makes (processor_walks, `LayRecords.antt`).
 use Prim.Native.Nat.{ℕ, zero, suc, _+_}
 use mathlib.Core.Path.{_≡_, refl, sym, ap, _∙_}
 use mathlib.Core.List.{List}
@@ -13,10 +13,10 @@ use Rattle.processor_build.proofs.record_of.Symbol as make-def
 use Rattle.processor_build.proofs.record_of.Symbol.{name as #processor-build·record-of}
 use Rattle.processor_build.proofs.record_of.Met as make-thm
 use Rattle.processor_table.proofs.Surveying.{Bounds}
-use Rattle.processor_table.proofs.lesser.Symbol as bound-def
-use Rattle.processor_table.proofs.lesser.Symbol.{name as #processor-table·lesser}
-use Rattle.processor_table.proofs.lesser.Met as bound-thm
-use Rattle.processor_walks.proofs.Laying.{Fits, Makes, lay-meets}
+use Rattle.base.proofs.least.Symbol as bound-def
+use Rattle.base.proofs.least.Symbol.{name as #base·least}
+use Rattle.base.proofs.least.Met as bound-thm
+use Rattle.processor_walks.proofs.LayRecords.{Fits, Makes, lay-meets}
 use Rattle.processor_new.proofs.lay.Key.{name as #processor-new·lay}
 use Rattle.processor_new.proofs.lay as self
 use Rattle.processor_new.proofs.lay.Statement as stated
@@ -40,6 +40,6 @@ unfolding code.routine tablesOf
 lay-spec 𝓤 H 𝓜 𝓖 𝓡 =
     entered 𝓤 H (tripleOf 𝓤 H (𝓖 .A) self.signature (self.spec 𝓤 H (𝓖 .A) (𝓜 .mem) (𝓡 .run)))
     (tables 𝓤 H 𝓜 𝓡 code.env .C) (tables 𝓤 H 𝓜 𝓡 code.env .Λ) #processor-new·lay code.function (code.unfolded 𝓤 H 𝓜 𝓡)
-    (lay-meets recordOf laidOf right #processor-table·lesser #processor-build·record-of 𝓤 H (𝓖 .A) (givenOf 𝓤 H 𝓜 𝓖) (tablesOf 𝓤 H 𝓜 (tables 𝓤 H 𝓜 𝓡 code.env))
-    (cited 𝓤 H (Bounds 𝓤 H (𝓖 .A)) 𝓜 𝓡 code.env #processor-table·lesser bound-def.routine code.calls-processor-table·lesser (bound-thm.met 𝓤 H 𝓜 𝓖 𝓡))
+    (lay-meets recordOf laidOf right #base·least #processor-build·record-of 𝓤 H (𝓖 .A) (givenOf 𝓤 H 𝓜 𝓖) (tablesOf 𝓤 H 𝓜 (tables 𝓤 H 𝓜 𝓡 code.env))
+    (cited 𝓤 H (Bounds 𝓤 H (𝓖 .A)) 𝓜 𝓡 code.env #base·least bound-def.routine code.calls-base·least (bound-thm.met 𝓤 H 𝓜 𝓖 𝓡))
     (cited 𝓤 H (Makes 𝓤 H (𝓖 .A) recordOf) 𝓜 𝓡 code.env #processor-build·record-of make-def.routine code.calls-processor-build·record-of (make-thm.met 𝓤 H 𝓜 𝓖 𝓡)))

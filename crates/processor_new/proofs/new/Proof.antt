@@ -1,4 +1,4 @@
--- `slc_new::new` judges, lays the records and finishes (`Building.antt`); that this is the model's `newOf` is `build`'s `new-is`.
+-- `processor_new::new` judges, lays the records and finishes (`NewMeets.antt`); that this is `newOf` of processor_spec is `new-is` of processor_build_spec.
 use mathlib.Core.Path.{_≡_}
 use contract.Running.{givenOf, tables, tablesOf}
 use denote.Triple.Spec.{tripleOf}
@@ -11,12 +11,12 @@ use Rattle.processor_build_spec.proofs.Raising.{new-is}
 use Rattle.processor_build.proofs.judge.Symbol as judge-def
 use Rattle.processor_build.proofs.judge.Symbol.{name as #processor-build·judge}
 use Rattle.processor_build.proofs.judge.Met as judge-thm
-use Rattle.build_end.proofs.finish.Symbol as finish-def
-use Rattle.build_end.proofs.finish.Symbol.{name as #build-end·finish}
-use Rattle.build_end.proofs.finish.Met as finish-thm
+use Rattle.processor_build.proofs.finish.Symbol as finish-def
+use Rattle.processor_build.proofs.finish.Symbol.{name as #processor-build·finish}
+use Rattle.processor_build.proofs.finish.Met as finish-thm
 use Rattle.processor_table.proofs.Surveying.{State, of-struct}
-use Rattle.processor_walks.proofs.Laying.{Lays}
-use Rattle.processor_new.proofs.Building.{Said, Owes, Fits, Judges, Finishes, new-meets}
+use Rattle.processor_walks.proofs.LayRecords.{Lays}
+use Rattle.processor_new.proofs.NewMeets.{Said, Owes, Fits, Judges, Finishes, new-meets}
 use Rattle.processor_new.proofs.lay.Symbol as lay-def
 use Rattle.processor_new.proofs.lay.Symbol.{name as #processor-new·lay}
 use Rattle.processor_new.proofs.lay.Met as lay-thm
@@ -43,7 +43,7 @@ unfolding code.routine tablesOf
 new-spec 𝓤 H 𝓜 𝓖 𝓡 =
     entered 𝓤 H (tripleOf 𝓤 H (𝓖 .A) self.signature (self.spec 𝓤 H (𝓖 .A) (𝓜 .mem) (𝓡 .run)))
     (tables 𝓤 H 𝓜 𝓡 code.env .C) (tables 𝓤 H 𝓜 𝓡 code.env .Λ) #processor-new·new code.function (code.unfolded 𝓤 H 𝓜 𝓡)
-    (new-meets built said owe right #processor-build·judge #processor-new·lay #build-end·finish 𝓤 H (𝓖 .A) (givenOf 𝓤 H 𝓜 𝓖) (𝓜 .mem) (𝓡 .run) (tablesOf 𝓤 H 𝓜 (tables 𝓤 H 𝓜 𝓡 code.env))
+    (new-meets built said owe right #processor-build·judge #processor-new·lay #processor-build·finish 𝓤 H (𝓖 .A) (givenOf 𝓤 H 𝓜 𝓖) (𝓜 .mem) (𝓡 .run) (tablesOf 𝓤 H 𝓜 (tables 𝓤 H 𝓜 𝓡 code.env))
     (cited 𝓤 H (Judges 𝓤 H (𝓖 .A) (𝓜 .mem) (𝓡 .run)) 𝓜 𝓡 code.env #processor-build·judge judge-def.routine code.calls-processor-build·judge (judge-thm.met 𝓤 H 𝓜 𝓖 𝓡))
     (cited 𝓤 H (Lays 𝓤 H (𝓖 .A) laidOf) 𝓜 𝓡 code.env #processor-new·lay lay-def.routine code.calls-processor-new·lay (lay-thm.met 𝓤 H 𝓜 𝓖 𝓡))
-    (cited 𝓤 H (Finishes built 𝓤 H (𝓖 .A) said) 𝓜 𝓡 code.env #build-end·finish finish-def.routine code.calls-build-end·finish (finish-thm.met 𝓤 H 𝓜 𝓖 𝓡)))
+    (cited 𝓤 H (Finishes built 𝓤 H (𝓖 .A) said) 𝓜 𝓡 code.env #processor-build·finish finish-def.routine code.calls-processor-build·finish (finish-thm.met 𝓤 H 𝓜 𝓖 𝓡)))

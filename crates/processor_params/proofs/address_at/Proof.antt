@@ -1,4 +1,4 @@
-use Rattle.processor_params.proofs.Reading.{cut-address, long-address, no-address, short-address}
+use Rattle.processor_params.proofs.HeaderReader.{cut-address, long-address, no-address, short-address}
 use borrow.Author.Needs.{needs}
 use Rattle.processor_params.proofs.address_at.Statement.{statement}
 use Rattle.processor_params.proofs.address_at.Tie as tie

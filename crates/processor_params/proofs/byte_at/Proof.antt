@@ -1,4 +1,4 @@
-use Rattle.processor_params.proofs.Reading.{no-byte, one-byte}
+use Rattle.processor_params.proofs.HeaderReader.{no-byte, one-byte}
 use borrow.Author.Needs.{needs}
 use Rattle.processor_params.proofs.byte_at.Statement.{statement}
 use Rattle.processor_params.proofs.byte_at.Tie as tie

@@ -1,4 +1,4 @@
-use Rattle.processor_params.proofs.Reading.{all-there, no-code, no-element, no-file, no-size}
+use Rattle.processor_params.proofs.HeaderReader.{all-there, no-code, no-element, no-file, no-size}
 use borrow.Author.Needs.{needs}
 use Rattle.processor_params.proofs.header_of.Statement.{statement}
 use Rattle.processor_params.proofs.header_of.Tie as tie

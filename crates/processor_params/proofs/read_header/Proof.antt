@@ -1,4 +1,4 @@
--- `params::read_header` meets its contract: a walk of its MIR. The place is a local, which is lent by `&mut` to each of the four takes (`Taking.antt`).
+-- `processor_params::read_header` meets its contract: a walk of its MIR. The place is a local, which is lent by `&mut` to each of the four takes (`Taking.antt`).
 use mathlib.Core.Path.{_≡_, refl, ap, subst, _∙_}
 use Prim.Native.Nat.{ℕ, _<_, _^_}
 use mathlib.Core.List.{List, [], _∷_}
@@ -43,10 +43,10 @@ use Rattle.walk_lent.proofs.Lent.{lies-in, lies-out}
 use Rattle.processor_params.specs.Take.{byteAt, addressAt}
 use Rattle.processor_params.specs.Header.{gathered, headerOf}
 use Rattle.processor_params.specs.declared.Params.{Params}
-use Rattle.processor_params.specs.declared.Byte.{Byte}
-use Rattle.processor_params.specs.declared.Word.{Word}
+use Rattle.processor_params.specs.declared.TakenByte.{TakenByte}
+use Rattle.processor_params.specs.declared.TakenWord.{TakenWord}
 use Rattle.processor_params.specs.declared.Header.{Header}
-use Rattle.processor_params.proofs.Reading.{takes-right}
+use Rattle.processor_params.proofs.HeaderReader.{takes-right}
 use Rattle.processor_params.proofs.Taking.{Kind, Takes, Bytes, Token, takes}
 use Rattle.processor_params.proofs.Taken.{byte, address}
 use Rattle.processor_params.proofs.Params as T
@@ -114,7 +114,7 @@ module _ {M : Type 1} (𝓤 : URA M) (H : Heap 𝓤) (A : Atoms 𝓤) (W : Given
       frame ! $ nothing ! $ move ! (1 ∷ 0 ∷ []) $ fjoin ! $ frame ! $ owned ! D.the-row (Is D.the-row) (LL.makes D.the-type D′.the-plain 𝓤 H A) d _ is $ done !
 
   -- what is put together
-  module _ (r₁ : Byte) (r₂ : Word) (r₃ : Byte) (r₄ : Word) (n : ℕ) where
+  module _ (r₁ : TakenByte) (r₂ : TakenWord) (r₃ : TakenByte) (r₄ : TakenWord) (n : ℕ) where
     abbrev to : Heads 𝓤 H A mem run .Ghost
     to = ((tt, tt, tt, (r₁, (r₂, (r₃, (r₄, (n, tt))))), (byte .val r₁ ∷ [], (address .val r₂ ∷ [], (byte .val r₃ ∷ [], (address .val r₄ ∷ [], (vint w64 n ∷ [], tt)))))), tt)
 

@@ -1,4 +1,4 @@
-use Rattle.processor_query.proofs.Asking.{directory-is}
+use Rattle.processor_query.proofs.FunctionQuery.{directory-is}
 use borrow.Author.Needs.{needs}
 use Rattle.processor_query.proofs.directory_query.Statement.{statement}
 use Rattle.processor_query.proofs.directory_query.Tie as tie

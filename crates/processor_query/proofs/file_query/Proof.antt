@@ -1,4 +1,4 @@
-use Rattle.processor_query.proofs.Asking.{file-cut, file-no-mask, file-no-sub, file-read, file-write, mask-within, sub-within}
+use Rattle.processor_query.proofs.FunctionQuery.{file-cut, file-no-mask, file-no-sub, file-read, file-write, mask-within, sub-within}
 use borrow.Author.Needs.{needs}
 use Rattle.processor_query.proofs.file_query.Statement.{statement}
 use Rattle.processor_query.proofs.file_query.Tie as tie

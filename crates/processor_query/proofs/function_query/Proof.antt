@@ -1,4 +1,4 @@
-use Rattle.processor_query.proofs.Asking.{header-within, no-header, not-known, of-datalog, of-directory, of-file}
+use Rattle.processor_query.proofs.FunctionQuery.{header-within, no-header, not-known, of-datalog, of-directory, of-file}
 use borrow.Author.Needs.{needs}
 use Rattle.processor_query.proofs.function_query.Statement.{statement}
 use Rattle.processor_query.proofs.function_query.Tie as tie

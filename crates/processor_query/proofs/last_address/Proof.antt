@@ -1,4 +1,4 @@
-use Rattle.processor_query.proofs.Places.{last-A1, last-else}
+use Rattle.processor_query.proofs.WordSteps.{last-A1, last-else}
 use borrow.Author.Needs.{needs}
 use Rattle.processor_query.proofs.last_address.Statement.{statement}
 use Rattle.processor_query.proofs.last_address.Tie as tie

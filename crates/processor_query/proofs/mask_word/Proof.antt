@@ -1,4 +1,4 @@
-use Rattle.processor_query.proofs.Places.{mask-cut, mask-else, mask-there}
+use Rattle.processor_query.proofs.WordSteps.{mask-cut, mask-else, mask-there}
 use borrow.Author.Needs.{needs}
 use Rattle.processor_query.proofs.mask_word.Statement.{statement}
 use Rattle.processor_query.proofs.mask_word.Tie as tie

@@ -1,6 +1,6 @@
 use native.Mathlib.Omega.{arith}
 use Rattle.processor_locate.proofs.Locating.{part-length}
-use Rattle.processor_respond.proofs.Logs.{entry-fits, entry-small, popped-none, popped-there}
+use Rattle.processor_respond.proofs.OldestEntry.{entry-fits, entry-small, popped-none, popped-there}
 use Rattle.processor_refinement.proofs.Replying.{told}
 use borrow.Author.Needs.{needs}
 use Rattle.processor_respond.proofs.pop.Statement.{statement}

@@ -1,4 +1,4 @@
-use Rattle.processor_show_directory.proofs.Listing.{length-is, rows-small}
+use Rattle.processor_show_directory.proofs.DirectoryBytes.{length-is, rows-small}
 use native.Mathlib.Omega.{arith}
 use borrow.Author.Needs.{needs}
 use Rattle.processor_show_directory.proofs.directory_length.Statement.{statement}

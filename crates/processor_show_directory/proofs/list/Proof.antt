@@ -1,4 +1,4 @@
-use Rattle.processor_show_directory.proofs.Listing.{list-bytes, list-other, list-past, list-size, size-range}
+use Rattle.processor_show_directory.proofs.DirectoryBytes.{list-bytes, list-other, list-past, list-size, size-range}
 use Rattle.processor_locate.proofs.Locating.{part-length}
 use Rattle.processor_refinement.proofs.Replying.{told}
 use borrow.Author.Needs.{needs}

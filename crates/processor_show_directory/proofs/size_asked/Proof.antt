@@ -1,4 +1,4 @@
-use Rattle.processor_show_directory.proofs.Listing.{size-below, size-other, size-test}
+use Rattle.processor_show_directory.proofs.DirectoryBytes.{size-below, size-other, size-test}
 use borrow.Author.Needs.{needs}
 use Rattle.processor_show_directory.proofs.size_asked.Statement.{statement}
 use Rattle.processor_show_directory.proofs.size_asked.Tie as tie

@@ -1,4 +1,4 @@
-use Rattle.processor_show_directory.proofs.Listing.{eight-length, eight-small, size-told}
+use Rattle.processor_show_directory.proofs.DirectoryBytes.{eight-length, eight-small, size-told}
 use Rattle.processor_refinement.proofs.Replying.{told}
 use borrow.Author.Needs.{needs}
 use Rattle.processor_show_directory.proofs.tell_size.Statement.{statement}

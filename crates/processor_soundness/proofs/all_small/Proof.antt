@@ -3,7 +3,7 @@ use mathlib.Core.Path.{_≡_, refl, _∙_}
 use native.Mathlib.Omega.{arith}
 use lib.ListN.{length, drop}
 use Rattle.processor_soundness.specs.Tests.{small}
-use Rattle.processor_soundness.proofs.Texts.{small-next, small-stop, small-last}
+use Rattle.processor_soundness.proofs.TypeText.{small-next, small-stop, small-last}
 use Rattle.processor_soundness.proofs.all_small.Statement.{statement}
 use Rattle.processor_soundness.proofs.all_small.Tie as tie
 use borrow.Author.Needs.{needs}

@@ -1,4 +1,4 @@
-use Rattle.processor_soundness.proofs.Logs.{room-none, room-cut, room-long, room-there}
+use Rattle.processor_soundness.proofs.DatalogRoom.{room-none, room-cut, room-long, room-there}
 use borrow.Author.Needs.{needs}
 use Rattle.processor_soundness.proofs.entry_room.Statement.{statement}
 use Rattle.processor_soundness.proofs.entry_room.Tie as tie

@@ -2,7 +2,7 @@ use Prim.Native.Nat.{_-_, _≤_}
 use mathlib.Core.Path.{_≡_, refl, sym, _∙_}
 use native.Mathlib.Omega.{arith}
 use lib.ListN.{length, drop}
-use Rattle.processor_soundness.proofs.Logs.{wellKept, kept-many, room-fits, log-goes, log-stops, log-ends}
+use Rattle.processor_soundness.proofs.DatalogRoom.{wellKept, kept-many, room-fits, log-goes, log-stops, log-ends}
 use Rattle.processor_soundness.proofs.good_log.Statement.{statement}
 use Rattle.processor_soundness.proofs.good_log.Tie as tie
 use borrow.Author.Needs.{needs}

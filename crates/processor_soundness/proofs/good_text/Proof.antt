@@ -1,4 +1,4 @@
-use Rattle.processor_soundness.proofs.Texts.{unmapped, text-long, text-good, text-parts, prefix-length}
+use Rattle.processor_soundness.proofs.TypeText.{unmapped, text-long, text-good, text-parts, prefix-length}
 use borrow.Author.Needs.{needs}
 use Rattle.processor_soundness.proofs.good_text.Statement.{statement}
 use Rattle.processor_soundness.proofs.good_text.Tie as tie

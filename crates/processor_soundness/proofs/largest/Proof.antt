@@ -3,7 +3,7 @@ use mathlib.Core.Path.{_≡_, ap, _∙_}
 use native.Mathlib.Omega.{arith}
 use lib.ListN.{length, drop}
 use Rattle.processor_soundness.specs.Tests.{largestFrom, largest}
-use Rattle.processor_soundness.proofs.Texts.{unmapped, largest-begins, largest-next, largest-last}
+use Rattle.processor_soundness.proofs.TypeText.{unmapped, largest-begins, largest-next, largest-last}
 use Rattle.processor_soundness.proofs.largest.Statement.{statement}
 use Rattle.processor_soundness.proofs.largest.Tie as tie
 use borrow.Author.Needs.{needs}

@@ -1,4 +1,4 @@
-use Rattle.processor_table.proofs.Records.{none-follow, none-found, one-found, too-many}
+use Rattle.processor_table.proofs.SurveySteps.{none-follow, none-found, one-found, too-many}
 use borrow.Author.Needs.{needs}
 use Rattle.processor_table.proofs.conclude.Statement.{statement}
 use Rattle.processor_table.proofs.conclude.Tie as tie

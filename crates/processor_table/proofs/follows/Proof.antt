@@ -1,4 +1,4 @@
-use Rattle.processor_table.proofs.Records.{above-255, below-next, elsewhere, goes-on}
+use Rattle.processor_table.proofs.SurveySteps.{above-255, below-next, elsewhere, goes-on}
 use Rattle.processor_table.proofs.follows.Statement.{statement}
 use Rattle.processor_table.proofs.follows.Tie as tie
 use borrow.Author.Needs.{needs}

@@ -1,4 +1,4 @@
-use Rattle.processor_table.proofs.Records.{gets-lost, number-fits, sees-it, sees-other, total-fits}
+use Rattle.processor_table.proofs.SurveySteps.{gets-lost, number-fits, sees-it, sees-other, total-fits}
 use Rattle.processor_table.proofs.passed.Statement.{statement}
 use Rattle.processor_table.proofs.passed.Tie as tie
 use borrow.Author.Needs.{needs}

@@ -1,18 +1,18 @@
--- `table::survey` meets its contract: it folds the first n records, with `begin` for its beginning and `passed` for its step (`Surveying.antt`), and the fold gives what the definition says (`Right.antt`).
+-- `processor_table::survey` meets its contract: it folds the first n records, with `begin` for its beginning and `passed` for its step (`Surveying.antt`), and the fold gives what the definition says (`SurveyRight.antt`).
 use denote.Triple.Spec.{tripleOf}
 use denote.Triple.Table.{entered, cited}
 use contract.Running.{givenOf, tables, tablesOf}
-use Rattle.processor_table.specs.Steps.{begunOf, passedOf, concludedOf}
+use Rattle.processor_table.specs.SurveySteps.{begunOf, passedOf, concludedOf}
 use Rattle.processor_table.specs.Survey.{surveyOf}
 use Rattle.processor_table.proofs.Surveying.{State, of-struct, Bounds, Begins, Steps, Ends, fold-meets}
-use Rattle.processor_table.proofs.Right.{survey-right}
+use Rattle.processor_table.proofs.SurveyRight.{survey-right}
 use Rattle.processor_table.proofs.Pass as P
 use Rattle.processor_table.proofs.Pass.Laws as P′
 use Rattle.processor_table.proofs.Seen as S
 use Rattle.processor_table.proofs.Seen.Laws as S′
-use Rattle.processor_table.proofs.lesser.Symbol as bound-def
-use Rattle.processor_table.proofs.lesser.Symbol.{name as #processor-table·lesser}
-use Rattle.processor_table.proofs.lesser.Met as bound-thm
+use Rattle.base.proofs.least.Symbol as bound-def
+use Rattle.base.proofs.least.Symbol.{name as #base·least}
+use Rattle.base.proofs.least.Met as bound-thm
 use Rattle.processor_table.proofs.begin.Symbol as begin-def
 use Rattle.processor_table.proofs.begin.Symbol.{name as #processor-table·begin}
 use Rattle.processor_table.proofs.begin.Met as begin-thm
@@ -38,8 +38,8 @@ unfolding code.routine tablesOf
 survey-spec 𝓤 H 𝓜 𝓖 𝓡 =
     entered 𝓤 H (tripleOf 𝓤 H (𝓖 .A) self.signature (self.spec 𝓤 H (𝓖 .A) (𝓜 .mem) (𝓡 .run)))
     (tables 𝓤 H 𝓜 𝓡 code.env .C) (tables 𝓤 H 𝓜 𝓡 code.env .Λ) #processor-table·survey code.function (code.unfolded 𝓤 H 𝓜 𝓡)
-    (fold-meets state result begunOf passedOf concludedOf surveyOf survey-right #processor-table·lesser #processor-table·begin #processor-table·passed #processor-table·conclude 𝓤 H (𝓖 .A) (givenOf 𝓤 H 𝓜 𝓖) (tablesOf 𝓤 H 𝓜 (tables 𝓤 H 𝓜 𝓡 code.env))
-    (cited 𝓤 H (Bounds 𝓤 H (𝓖 .A)) 𝓜 𝓡 code.env #processor-table·lesser bound-def.routine code.calls-processor-table·lesser (bound-thm.met 𝓤 H 𝓜 𝓖 𝓡))
+    (fold-meets state result begunOf passedOf concludedOf surveyOf survey-right #base·least #processor-table·begin #processor-table·passed #processor-table·conclude 𝓤 H (𝓖 .A) (givenOf 𝓤 H 𝓜 𝓖) (tablesOf 𝓤 H 𝓜 (tables 𝓤 H 𝓜 𝓡 code.env))
+    (cited 𝓤 H (Bounds 𝓤 H (𝓖 .A)) 𝓜 𝓡 code.env #base·least bound-def.routine code.calls-base·least (bound-thm.met 𝓤 H 𝓜 𝓖 𝓡))
     (cited 𝓤 H (Begins state 𝓤 H (𝓖 .A) begunOf) 𝓜 𝓡 code.env #processor-table·begin begin-def.routine code.calls-processor-table·begin (begin-thm.met 𝓤 H 𝓜 𝓖 𝓡))
     (cited 𝓤 H (Steps state 𝓤 H (𝓖 .A) passedOf) 𝓜 𝓡 code.env #processor-table·passed step-def.routine code.calls-processor-table·passed (step-thm.met 𝓤 H 𝓜 𝓖 𝓡))
     (cited 𝓤 H (Ends state result 𝓤 H (𝓖 .A) concludedOf) 𝓜 𝓡 code.env #processor-table·conclude end-def.routine code.calls-processor-table·conclude (end-thm.met 𝓤 H 𝓜 𝓖 𝓡)))

@@ -1,4 +1,4 @@
-use Rattle.processor_table.proofs.Records.{whole-two, whole-six, whole-N, whole-A, whole-F, whole-L, whole-ST, whole-low, whole-high}
+use Rattle.processor_table.proofs.SurveySteps.{whole-two, whole-six, whole-N, whole-A, whole-F, whole-L, whole-ST, whole-low, whole-high}
 use native.Mathlib.Omega.{arith}
 use borrow.Author.Needs.{needs}
 use Rattle.processor_table.proofs.whole.Statement.{statement}

@@ -1,4 +1,4 @@
-use Rattle.reply_status_text.proofs.Texts.{no-room, put-told}
+use Rattle.reply_status_text.proofs.StatusTexts.{no-room, put-told}
 use borrow.Author.Needs.{needs}
 use Rattle.reply.proofs.missing.Statement.{statement}
 use Rattle.reply.proofs.missing.Tie as tie

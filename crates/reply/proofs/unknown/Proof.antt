@@ -1,5 +1,5 @@
 use native.Mathlib.Omega.{arith}
-use Rattle.reply_status_text.proofs.Texts.{no-room, told}
+use Rattle.reply_status_text.proofs.StatusTexts.{no-room, told}
 use Rattle.reply.proofs.Status.{hex-length}
 use borrow.Author.Needs.{needs}
 use Rattle.reply.proofs.unknown.Statement.{statement}

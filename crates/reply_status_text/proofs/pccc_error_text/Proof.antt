@@ -1,4 +1,4 @@
-use Rattle.reply_status_text.proofs.Texts.{row-told, no-text}
+use Rattle.reply_status_text.proofs.StatusTexts.{row-told, no-text}
 use borrow.Author.Needs.{needs}
 use Rattle.reply_status_text.proofs.pccc_error_text.Statement.{statement}
 use Rattle.reply_status_text.proofs.pccc_error_text.Tie as tie

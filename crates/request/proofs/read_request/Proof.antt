@@ -1,4 +1,4 @@
-use Rattle.request.proofs.Sent.{no-address, on-address, read-3, read-5, read-6, read-built}
+use Rattle.request.proofs.RequestSent.{no-address, on-address, read-3, read-5, read-6, read-built}
 use borrow.Author.Needs.{needs}
 use Rattle.request.proofs.read_request.Statement.{statement}
 use Rattle.request.proofs.read_request.Tie as tie

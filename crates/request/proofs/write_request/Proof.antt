@@ -1,4 +1,4 @@
-use Rattle.request.proofs.Sent.{no-address, on-address, write-3, write-4, write-5, write-6, write-built}
+use Rattle.request.proofs.RequestSent.{no-address, on-address, write-3, write-4, write-5, write-6, write-built}
 use borrow.Author.Needs.{needs}
 use Rattle.request.proofs.write_request.Statement.{statement}
 use Rattle.request.proofs.write_request.Tie as tie

@@ -1,4 +1,4 @@
-use Rattle.request_spec.proofs.Asking.{bit-no, bit-yes}
+use Rattle.request_spec.proofs.RequestQuestions.{bit-no, bit-yes}
 use Rattle.request_spec.proofs.bit_and_count.Statement.{statement}
 use Rattle.request_spec.proofs.bit_and_count.Tie as tie
 use borrow.Author.Needs.{needs}

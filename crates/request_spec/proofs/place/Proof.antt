@@ -1,4 +1,4 @@
-use Rattle.request_spec.proofs.Asking.{at-place}
+use Rattle.request_spec.proofs.RequestQuestions.{at-place}
 use borrow.Author.Needs.{needs}
 use Rattle.request_spec.proofs.place.Statement.{statement}
 use Rattle.request_spec.proofs.place.Tie as tie

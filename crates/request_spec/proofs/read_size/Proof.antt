@@ -1,4 +1,4 @@
-use Rattle.request_spec.proofs.Asking.{size-far, size-fine, size-fits, size-large}
+use Rattle.request_spec.proofs.RequestQuestions.{size-far, size-fine, size-fits, size-large}
 use borrow.Author.Needs.{needs}
 use Rattle.request_spec.proofs.read_size.Statement.{statement}
 use Rattle.request_spec.proofs.read_size.Tie as tie

@@ -1,5 +1,5 @@
 use Rattle.request_frame.proofs.Laid.{lays}
-use Rattle.request_untagged.proofs.Sent.{datalog-none, datalog-sent}
+use Rattle.request_untagged.proofs.UntaggedSent.{datalog-none, datalog-sent}
 use borrow.Author.Needs.{needs}
 use Rattle.request_untagged.proofs.datalog_request.Statement.{statement}
 use Rattle.request_untagged.proofs.datalog_request.Tie as tie

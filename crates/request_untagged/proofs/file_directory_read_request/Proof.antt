@@ -1,4 +1,4 @@
-use Rattle.request_untagged.proofs.Sent.{far, read-none, read-sent}
+use Rattle.request_untagged.proofs.UntaggedSent.{far, read-none, read-sent}
 use borrow.Author.Needs.{needs}
 use Rattle.request_untagged.proofs.file_directory_read_request.Statement.{statement}
 use Rattle.request_untagged.proofs.file_directory_read_request.Tie as tie

@@ -1,5 +1,5 @@
 use Rattle.request_frame.proofs.Laid.{lays}
-use Rattle.request_untagged.proofs.Sent.{size-none, size-sent}
+use Rattle.request_untagged.proofs.UntaggedSent.{size-none, size-sent}
 use borrow.Author.Needs.{needs}
 use Rattle.request_untagged.proofs.file_directory_size_request.Statement.{statement}
 use Rattle.request_untagged.proofs.file_directory_size_request.Tie as tie

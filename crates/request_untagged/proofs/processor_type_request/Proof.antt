@@ -1,5 +1,5 @@
 use Rattle.request_frame.proofs.Laid.{lays}
-use Rattle.request_untagged.proofs.Sent.{processor-none, processor-sent}
+use Rattle.request_untagged.proofs.UntaggedSent.{processor-none, processor-sent}
 use borrow.Author.Needs.{needs}
 use Rattle.request_untagged.proofs.processor_type_request.Statement.{statement}
 use Rattle.request_untagged.proofs.processor_type_request.Tie as tie

@@ -1,4 +1,4 @@
-use Rattle.request_spec.proofs.Asking.{not-bit, on-bit}
+use Rattle.request_spec.proofs.RequestQuestions.{not-bit, on-bit}
 use borrow.Author.Needs.{needs}
 use Rattle.request_write.proofs.bit_suits.Statement.{statement}
 use Rattle.request_write.proofs.bit_suits.Tie as tie

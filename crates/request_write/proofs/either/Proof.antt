@@ -1,4 +1,4 @@
-use Rattle.request_spec.proofs.Asking.{first, second}
+use Rattle.request_spec.proofs.RequestQuestions.{first, second}
 use Rattle.request_write.proofs.either.Statement.{statement}
 use Rattle.request_write.proofs.either.Tie as tie
 use borrow.Author.Needs.{needs}

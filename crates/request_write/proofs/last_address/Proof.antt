@@ -1,4 +1,4 @@
-use Rattle.request_spec.proofs.Asking.{at-position, at-word}
+use Rattle.request_spec.proofs.RequestQuestions.{at-position, at-word}
 use borrow.Author.Needs.{needs}
 use Rattle.request_write.proofs.last_address.Statement.{statement}
 use Rattle.request_write.proofs.last_address.Tie as tie

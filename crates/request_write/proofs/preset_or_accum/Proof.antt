@@ -1,4 +1,4 @@
-use Rattle.request_spec.proofs.Asking.{not-timer, timer}
+use Rattle.request_spec.proofs.RequestQuestions.{not-timer, timer}
 use borrow.Author.Needs.{needs}
 use Rattle.request_write.proofs.preset_or_accum.Statement.{statement}
 use Rattle.request_write.proofs.preset_or_accum.Tie as tie

@@ -1,4 +1,4 @@
-use Rattle.request_spec.proofs.Asking.{suits-bool, suits-raw, suits-text}
+use Rattle.request_spec.proofs.RequestQuestions.{suits-bool, suits-raw, suits-text}
 use borrow.Author.Needs.{needs}
 use Rattle.request_write.proofs.suits.Statement.{statement}
 use Rattle.request_write.proofs.suits.Tie as tie

@@ -1,4 +1,4 @@
-use Rattle.request_spec.proofs.Asking.{not-text, text}
+use Rattle.request_spec.proofs.RequestQuestions.{not-text, text}
 use borrow.Author.Needs.{needs}
 use Rattle.request_write.proofs.text_suits.Statement.{statement}
 use Rattle.request_write.proofs.text_suits.Tie as tie

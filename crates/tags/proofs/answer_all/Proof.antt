@@ -3,7 +3,7 @@ use Prim.Native.Nat.{_-_, _≤_}
 use mathlib.Core.Path.{_≡_}
 use lib.ListN.{length, drop}
 use Rattle.tags_stream.specs.Pieces.{rest, held, keptBy}
-use Rattle.tags.proofs.Reading.{feed-within, feed-forward, feed-keeps, all-read, shut}
+use Rattle.tags.proofs.AllRead.{feed-within, feed-forward, feed-keeps, all-read, shut}
 use Rattle.tags.proofs.answer_all.Statement.{statement}
 use Rattle.tags.proofs.answer_all.Tie as tie
 

@@ -2,7 +2,7 @@ use borrow.Author.Needs.{needs}
 use Prim.Native.Nat.{_*_, _-_, _≤_}
 use mathlib.Core.Path.{_≡_}
 use lib.ListN.{length, take, drop}
-use Rattle.tags_stream.specs.Steps.{Onward}
+use Rattle.tags_stream.specs.FeedSteps.{Onward}
 use Rattle.tags_stream.proofs.Onward.{onward-start, run-turn, run-done}
 use Rattle.tags_stream.proofs.run.Statement.{statement}
 use Rattle.tags_stream.proofs.run.Tie as tie

@@ -4,7 +4,7 @@ use mathlib.Core.Path.{_≡_}
 use lib.ListN.{length}
 use Rattle.directory.specs.Passes.{countFrom}
 use Rattle.directory.specs.Rows.{rows}
-use Rattle.directory.proofs.Counting.{count-done, count-stop, count-few, count-turn}
+use Rattle.directory.proofs.FirstPass.{count-done, count-stop, count-few, count-turn}
 use Rattle.directory.proofs.rows.count_files.Statement.{statement}
 use Rattle.directory.proofs.rows.count_files.Tie as tie
 

@@ -1,4 +1,4 @@
-use Rattle.directory.proofs.Counting.{count-file, count-none, count-reserved, count-other}
+use Rattle.directory.proofs.FirstPass.{count-file, count-none, count-reserved, count-other}
 use borrow.Author.Needs.{needs}
 use Rattle.directory.proofs.rows.count_row.Statement.{statement}
 use Rattle.directory.proofs.rows.count_row.Tie as tie

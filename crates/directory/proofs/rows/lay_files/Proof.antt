@@ -4,7 +4,7 @@ use mathlib.Core.Path.{_≡_}
 use lib.ListN.{length}
 use Rattle.directory.specs.Passes.{lay}
 use Rattle.directory.specs.Rows.{rows, filesFrom}
-use Rattle.directory.proofs.Laying.{row-left, small-number, row-fewer, left-turn, files-turn, number-turn, lay-done}
+use Rattle.directory.proofs.SecondPass.{row-left, small-number, row-fewer, left-turn, files-turn, number-turn, lay-done}
 use Rattle.directory.proofs.rows.lay_files.Statement.{statement}
 use Rattle.directory.proofs.rows.lay_files.Tie as tie
 

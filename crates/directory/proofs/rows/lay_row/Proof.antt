@@ -1,4 +1,4 @@
-use Rattle.directory.proofs.Laying.{number-fits, turn-file, turn-cut, turn-reserved, turn-other}
+use Rattle.directory.proofs.SecondPass.{number-fits, turn-file, turn-cut, turn-reserved, turn-other}
 use borrow.Author.Needs.{needs}
 use Rattle.directory.proofs.rows.lay_row.Statement.{statement}
 use Rattle.directory.proofs.rows.lay_row.Tie as tie

@@ -1,4 +1,4 @@
-use Rattle.element_decode.proofs.Reading.{ascii-read, no-text-room}
+use Rattle.element_decode.proofs.DecodeAnswers.{ascii-read, no-text-room}
 use borrow.Author.Needs.{needs}
 use Rattle.element_decode.proofs.get.ascii.Statement.{statement}
 use Rattle.element_decode.proofs.get.ascii.Tie as tie

@@ -1,4 +1,4 @@
-use Rattle.element_decode.proofs.Reading.{characters-are}
+use Rattle.element_decode.proofs.DecodeAnswers.{characters-are}
 use borrow.Author.Needs.{needs}
 use Rattle.element_decode.proofs.get.characters.Statement.{statement}
 use Rattle.element_decode.proofs.get.characters.Tie as tie

@@ -1,4 +1,4 @@
-use Rattle.element_decode.proofs.Reading.{fields-read}
+use Rattle.element_decode.proofs.DecodeAnswers.{fields-read}
 use borrow.Author.Needs.{needs}
 use Rattle.element_decode.proofs.get.fields.Statement.{statement}
 use Rattle.element_decode.proofs.get.fields.Tie as tie

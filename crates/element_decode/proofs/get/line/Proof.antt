@@ -1,4 +1,4 @@
-use Rattle.element_decode.proofs.Reading.{line-cut, line-read, no-text-room}
+use Rattle.element_decode.proofs.DecodeAnswers.{line-cut, line-read, no-text-room}
 use borrow.Author.Needs.{needs}
 use Rattle.element_decode.proofs.get.line.Statement.{statement}
 use Rattle.element_decode.proofs.get.line.Tie as tie

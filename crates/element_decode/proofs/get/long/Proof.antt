@@ -1,4 +1,4 @@
-use Rattle.element_decode.proofs.Reading.{long-read}
+use Rattle.element_decode.proofs.DecodeAnswers.{long-read}
 use borrow.Author.Needs.{needs}
 use Rattle.element_decode.proofs.get.long.Statement.{statement}
 use Rattle.element_decode.proofs.get.long.Tie as tie

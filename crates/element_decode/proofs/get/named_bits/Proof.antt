@@ -1,4 +1,4 @@
-use Rattle.element_decode.proofs.Reading.{bits-read, few-bits, low-fits, low-part, not-zero}
+use Rattle.element_decode.proofs.DecodeAnswers.{bits-read, few-bits, low-fits, low-part, not-zero}
 use borrow.Author.Needs.{needs}
 use Rattle.element_decode.proofs.get.named_bits.Statement.{statement}
 use Rattle.element_decode.proofs.get.named_bits.Tie as tie

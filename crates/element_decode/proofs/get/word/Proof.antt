@@ -1,4 +1,4 @@
-use Rattle.element_decode.proofs.Reading.{word-cast, word-read}
+use Rattle.element_decode.proofs.DecodeAnswers.{word-cast, word-read}
 use borrow.Author.Needs.{needs}
 use Rattle.element_decode.proofs.get.word.Statement.{statement}
 use Rattle.element_decode.proofs.get.word.Tie as tie

@@ -1,4 +1,4 @@
-use Rattle.element_encode.proofs.Setting.{on-field, on-words}
+use Rattle.element_encode.proofs.EncodeAnswers.{on-field, on-words}
 use borrow.Author.Needs.{needs}
 use Rattle.element_encode.proofs.set.fields.Statement.{statement}
 use Rattle.element_encode.proofs.set.fields.Tie as tie

@@ -1,4 +1,4 @@
-use Rattle.element_encode.proofs.Setting.{on-float}
+use Rattle.element_encode.proofs.EncodeAnswers.{on-float}
 use borrow.Author.Needs.{needs}
 use Rattle.element_encode.proofs.set.float.Statement.{statement}
 use Rattle.element_encode.proofs.set.float.Tie as tie

@@ -1,4 +1,4 @@
-use Rattle.element_encode.proofs.Setting.{words-laid}
+use Rattle.element_encode.proofs.EncodeAnswers.{words-laid}
 use borrow.Author.Needs.{needs}
 use Rattle.element_encode.proofs.set.lay_words.Statement.{statement}
 use Rattle.element_encode.proofs.set.lay_words.Tie as tie

@@ -1,4 +1,4 @@
-use Rattle.element_encode.proofs.Setting.{float-stored}
+use Rattle.element_encode.proofs.EncodeAnswers.{float-stored}
 use borrow.Author.Needs.{needs}
 use Rattle.element_encode.proofs.set.put_float.Statement.{statement}
 use Rattle.element_encode.proofs.set.put_float.Tie as tie

@@ -1,4 +1,4 @@
-use Rattle.element_encode.proofs.Setting.{words-in, words-out-1, words-out-2, words-out-3}
+use Rattle.element_encode.proofs.EncodeAnswers.{words-in, words-out-1, words-out-2, words-out-3}
 use borrow.Author.Needs.{needs}
 use Rattle.element_encode.proofs.set.put_words.Statement.{statement}
 use Rattle.element_encode.proofs.set.put_words.Tie as tie

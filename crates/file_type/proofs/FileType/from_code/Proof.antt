@@ -1,5 +1,5 @@
 use borrow.Author.Needs.{needs}
-use Rattle.file_type.proofs.Table.{has-code, no-code}
+use Rattle.file_type.proofs.FileTypes.{has-code, no-code}
 use Rattle.file_type.proofs.FileType.from_code.Statement.{statement}
 use Rattle.file_type.proofs.FileType.from_code.Tie as tie
 

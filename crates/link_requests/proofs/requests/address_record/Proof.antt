@@ -1,5 +1,5 @@
-use Rattle.link_requests.specs.Requests.{addressRecord}
-use Rattle.link_types.proofs.Records.{case}
+use Rattle.link_requests.specs.RequestRecords.{addressRecord}
+use Rattle.link_types.proofs.TypeRecords.{case}
 use borrow.Author.Needs.{needs}
 use Rattle.link_requests.proofs.requests.address_record.Statement.{statement}
 use Rattle.link_requests.proofs.requests.address_record.Tie as tie

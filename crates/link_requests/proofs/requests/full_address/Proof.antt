@@ -1,4 +1,4 @@
-use Rattle.link_requests.proofs.Records.{full}
+use Rattle.link_requests.proofs.RequestRecords.{full}
 use borrow.Author.Needs.{needs}
 use Rattle.link_requests.proofs.requests.full_address.Statement.{statement}
 use Rattle.link_requests.proofs.requests.full_address.Tie as tie

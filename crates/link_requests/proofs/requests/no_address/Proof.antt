@@ -1,5 +1,5 @@
 use borrow.Author.Needs.{needs}
-use Rattle.link_requests.specs.Requests.{noAddress}
+use Rattle.link_requests.specs.RequestRecords.{noAddress}
 use Rattle.link_requests.proofs.requests.no_address.Statement.{statement}
 use Rattle.link_requests.proofs.requests.no_address.Tie as tie
 

@@ -1,4 +1,4 @@
-use Rattle.link_requests.proofs.Records.{request-refused, request-built}
+use Rattle.link_requests.proofs.RequestRecords.{request-refused, request-built}
 use borrow.Author.Needs.{needs}
 use Rattle.link_requests.proofs.requests.request_record.Statement.{statement}
 use Rattle.link_requests.proofs.requests.request_record.Tie as tie

@@ -1,5 +1,5 @@
 use Rattle.parser_spec.specs.Parts.{countOf}
-use Rattle.parser.proofs.Reading.{reading}
+use Rattle.parser.proofs.PartReaders.{reading}
 use borrow.Author.Needs.{needs}
 use Rattle.parser.proofs.Cur.count.Statement.{statement}
 use Rattle.parser.proofs.Cur.count.Tie as tie

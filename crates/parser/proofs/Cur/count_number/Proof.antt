@@ -1,4 +1,4 @@
-use Rattle.parser.proofs.Reading.{any-number, one-or-two, word-none, word-number}
+use Rattle.parser.proofs.PartReaders.{any-number, one-or-two, word-none, word-number}
 use borrow.Author.Needs.{needs}
 use Rattle.parser.proofs.Cur.count_number.Statement.{statement}
 use Rattle.parser.proofs.Cur.count_number.Tie as tie

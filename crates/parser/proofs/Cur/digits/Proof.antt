@@ -1,4 +1,4 @@
-use Rattle.parser.proofs.Reading.{digits-long, digits-are}
+use Rattle.parser.proofs.PartReaders.{digits-long, digits-are}
 use borrow.Author.Needs.{needs}
 use Rattle.parser.proofs.Cur.digits.Statement.{statement}
 use Rattle.parser.proofs.Cur.digits.Tie as tie

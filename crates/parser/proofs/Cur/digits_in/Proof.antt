@@ -1,5 +1,5 @@
 use Rattle.parser_spec.specs.Parts.{digitsIn}
-use Rattle.parser.proofs.Reading.{reading, too-low, too-high, in-range}
+use Rattle.parser.proofs.PartReaders.{reading, too-low, too-high, in-range}
 use borrow.Author.Needs.{needs}
 use Rattle.parser.proofs.Cur.digits_in.Statement.{statement}
 use Rattle.parser.proofs.Cur.digits_in.Tie as tie

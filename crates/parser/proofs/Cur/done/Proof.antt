@@ -1,4 +1,4 @@
-use Rattle.parser.proofs.Reading.{more-left, nothing-left}
+use Rattle.parser.proofs.PartReaders.{more-left, nothing-left}
 use borrow.Author.Needs.{needs}
 use Rattle.parser.proofs.Cur.done.Statement.{statement}
 use Rattle.parser.proofs.Cur.done.Tie as tie

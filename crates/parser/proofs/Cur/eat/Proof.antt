@@ -1,4 +1,4 @@
-use Rattle.parser.proofs.Reading.{byte-end, byte-here, byte-not}
+use Rattle.parser.proofs.PartReaders.{byte-end, byte-here, byte-not}
 use borrow.Author.Needs.{needs}
 use Rattle.parser.proofs.Cur.eat.Statement.{statement}
 use Rattle.parser.proofs.Cur.eat.Tie as tie

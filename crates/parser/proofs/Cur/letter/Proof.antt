@@ -1,4 +1,4 @@
-use Rattle.parser.proofs.Reading.{letter-end, letter-here, letter-not}
+use Rattle.parser.proofs.PartReaders.{letter-end, letter-here, letter-not}
 use borrow.Author.Needs.{needs}
 use Rattle.parser.proofs.Cur.letter.Statement.{statement}
 use Rattle.parser.proofs.Cur.letter.Tie as tie

@@ -1,4 +1,4 @@
-use Rattle.parser.proofs.Reading.{numeral-none, numeral-at}
+use Rattle.parser.proofs.PartReaders.{numeral-none, numeral-at}
 use borrow.Author.Needs.{needs}
 use Rattle.parser.proofs.Cur.numeral.Statement.{statement}
 use Rattle.parser.proofs.Cur.numeral.Tie as tie

@@ -1,4 +1,4 @@
-use Rattle.link_texts.proofs.Through.{sends}
+use Rattle.link_texts.proofs.TextAnswers.{sends}
 use borrow.Author.Needs.{needs}
 use Rattle.slc_link.proofs.directories.slc_file_directory_read_request.Statement.{
   statement,

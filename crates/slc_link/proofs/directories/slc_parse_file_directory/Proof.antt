@@ -1,4 +1,4 @@
-use Rattle.link_texts.proofs.Through.{lists}
+use Rattle.link_texts.proofs.TextAnswers.{lists}
 use borrow.Author.Needs.{needs}
 use Rattle.slc_link.proofs.directories.slc_parse_file_directory.Statement.{statement}
 use Rattle.slc_link.proofs.directories.slc_parse_file_directory.Tie as tie

@@ -1,5 +1,5 @@
-use Rattle.link_texts.specs.Written.{sizeRecord}
-use Rattle.link_types.proofs.Records.{through}
+use Rattle.link_texts.specs.WrittenRecords.{sizeRecord}
+use Rattle.link_types.proofs.TypeRecords.{through}
 use borrow.Author.Needs.{needs}
 use Rattle.slc_link.proofs.directories.slc_parse_file_directory_size.Statement.{statement}
 use Rattle.slc_link.proofs.directories.slc_parse_file_directory_size.Tie as tie

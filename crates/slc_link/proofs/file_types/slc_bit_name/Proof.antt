@@ -1,7 +1,7 @@
 use Rattle.file_type.specs.declared.Known.{Known}
 use Prim.Native.Nat.{ℕ}
 use Rattle.link_types.specs.Types.{nameRecord, bitNameIn}
-use Rattle.link_types.proofs.Records.{beside}
+use Rattle.link_types.proofs.TypeRecords.{beside}
 use borrow.Author.Needs.{needs}
 use Rattle.slc_link.proofs.file_types.slc_bit_name.Statement.{statement}
 use Rattle.slc_link.proofs.file_types.slc_bit_name.Tie as tie

@@ -1,5 +1,5 @@
 use Rattle.link_types.specs.Types.{typeRecord}
-use Rattle.link_types.proofs.Records.{through}
+use Rattle.link_types.proofs.TypeRecords.{through}
 use borrow.Author.Needs.{needs}
 use Rattle.slc_link.proofs.file_types.slc_type_of_code.Statement.{statement}
 use Rattle.slc_link.proofs.file_types.slc_type_of_code.Tie as tie

@@ -1,4 +1,4 @@
-use Rattle.link_texts.proofs.Through.{says}
+use Rattle.link_texts.proofs.TextAnswers.{says}
 use borrow.Author.Needs.{needs}
 use Rattle.slc_link.proofs.replies.slc_request_status.Statement.{statement}
 use Rattle.slc_link.proofs.replies.slc_request_status.Tie as tie

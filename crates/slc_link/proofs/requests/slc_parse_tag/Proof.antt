@@ -1,5 +1,5 @@
-use Rattle.link_requests.specs.Requests.{addressRecord}
-use Rattle.link_types.proofs.Records.{through}
+use Rattle.link_requests.specs.RequestRecords.{addressRecord}
+use Rattle.link_types.proofs.TypeRecords.{through}
 use borrow.Author.Needs.{needs}
 use Rattle.slc_link.proofs.requests.slc_parse_tag.Statement.{statement}
 use Rattle.slc_link.proofs.requests.slc_parse_tag.Tie as tie

@@ -1,4 +1,4 @@
-use Rattle.link_requests.proofs.Through.{asks}
+use Rattle.link_requests.proofs.RequestAnswers.{asks}
 use borrow.Author.Needs.{needs}
 use Rattle.slc_link.proofs.requests.slc_read_request.Statement.{statement}
 use Rattle.slc_link.proofs.requests.slc_read_request.Tie as tie

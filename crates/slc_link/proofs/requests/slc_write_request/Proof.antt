@@ -1,4 +1,4 @@
-use Rattle.link_requests.proofs.Through.{asks-kind, asks-none}
+use Rattle.link_requests.proofs.RequestAnswers.{asks-kind, asks-none}
 use borrow.Author.Needs.{needs}
 use Rattle.slc_link.proofs.requests.slc_write_request.Statement.{statement}
 use Rattle.slc_link.proofs.requests.slc_write_request.Tie as tie

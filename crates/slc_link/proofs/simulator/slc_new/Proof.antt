@@ -1,4 +1,4 @@
--- `slc_new` is one more call of the shape of `processor_new::new` (crate `slc_new`, `Building.antt`), with the answer in numbers.
+-- `slc_new` is one more call of the shape of `processor_new::new` (`NewMeets.antt`), with the answer in numbers.
 use mathlib.Core.Path.{_≡_, refl, ap, _∙_}
 use contract.Running.{givenOf, tables, tablesOf}
 use denote.Triple.Spec.{tripleOf}
@@ -9,12 +9,12 @@ use Rattle.processor_build_spec.proofs.Raising.{new-is}
 use Rattle.processor_build.proofs.judge.Symbol as judge-def
 use Rattle.processor_build.proofs.judge.Symbol.{name as #processor-build·judge}
 use Rattle.processor_build.proofs.judge.Met as judge-thm
-use Rattle.processor_walks.proofs.Laying.{Lays}
-use Rattle.processor_new.proofs.Building.{Said, Owes, Fits, Judges, Finishes, new-meets}
+use Rattle.processor_walks.proofs.LayRecords.{Lays}
+use Rattle.processor_new.proofs.NewMeets.{Said, Owes, Fits, Judges, Finishes, new-meets}
 use Rattle.processor_new.proofs.lay.Symbol as lay-def
 use Rattle.processor_new.proofs.lay.Symbol.{name as #processor-new·lay}
 use Rattle.processor_new.proofs.lay.Met as lay-thm
-use Rattle.link_processor.specs.Answers.{builtOf, Finished, Raises}
+use Rattle.link_processor.specs.ProcessorRecords.{builtOf, Finished, Raises}
 use Rattle.link_processor.proofs.finish.Symbol as finish-def
 use Rattle.link_processor.proofs.finish.Symbol.{name as #link-processor·finish}
 use Rattle.link_processor.proofs.finish.Met as finish-thm

@@ -1,10 +1,10 @@
--- `slc_read` is one more call of the shape of `processor_element::read` (crate `access`, `Accessing.antt`), by a type code and with the answer in numbers.
+-- `slc_read` is one more call of the shape of `processor_element::read` (`Accessing.antt`), by a type code and with the answer in numbers.
 use mathlib.Core.Path.{subst}
 use lib.ListN.{length}
 use Rattle.element_spec.specs.Decode.{Says as Tells}
-use Rattle.link_element_access.specs.Access.{readIn, readInBy}
-use Rattle.link_elements.specs.Elements.{ReadsInNumbers}
-use Rattle.link_element_access.proofs.Accesses.{read-in-is}
+use Rattle.link_element_access.specs.AccessByCode.{readIn, readInBy}
+use Rattle.link_elements.specs.ElementRecords.{ReadsInNumbers}
+use Rattle.link_element_access.proofs.AccessByCode.{read-in-is}
 use contract.Running.{givenOf, tables, tablesOf}
 use denote.Triple.Spec.{tripleOf}
 use denote.Triple.Table.{entered, cited}
@@ -13,7 +13,7 @@ use Rattle.processor_spec.specs.Plain.{stateOf}
 use Rattle.processor_table.proofs.survey.Symbol as survey-def
 use Rattle.processor_table.proofs.survey.Symbol.{name as #processor-table·survey}
 use Rattle.processor_table.proofs.survey.Met as survey-thm
-use Rattle.processor_walks.proofs.Asking.{Surveys}
+use Rattle.processor_walks.proofs.Callees.{Surveys}
 use Rattle.processor_element.proofs.Accessing.{Said, Says, Fits, Cores, access-meets}
 use Rattle.link_element_access.proofs.read_element.Symbol as core-def
 use Rattle.link_element_access.proofs.read_element.Symbol.{name as #link-element-access·read-element}

@@ -1,9 +1,9 @@
--- `slc_set` is one more call of the shape of `processor_element::set` (crate `access`, `Accessing.antt`), by a type code and with the answer in a number.
+-- `slc_set` is one more call of the shape of `processor_element::set` (`Accessing.antt`), by a type code and with the answer in a number.
 use mathlib.Core.Path.{subst}
 use Rattle.base.specs.Outcome.{Outcome}
-use Rattle.link_element_access.specs.Access.{setIn, setInBy}
-use Rattle.link_elements.specs.Elements.{StoresInNumbers}
-use Rattle.link_element_access.proofs.Accesses.{set-in-is}
+use Rattle.link_element_access.specs.AccessByCode.{setIn, setInBy}
+use Rattle.link_elements.specs.ElementRecords.{StoresInNumbers}
+use Rattle.link_element_access.proofs.AccessByCode.{set-in-is}
 use contract.Running.{givenOf, tables, tablesOf}
 use denote.Triple.Spec.{tripleOf}
 use denote.Triple.Table.{entered, cited}
@@ -12,7 +12,7 @@ use Rattle.processor_spec.specs.Plain.{stateOf}
 use Rattle.processor_table.proofs.survey.Symbol as survey-def
 use Rattle.processor_table.proofs.survey.Symbol.{name as #processor-table·survey}
 use Rattle.processor_table.proofs.survey.Met as survey-thm
-use Rattle.processor_walks.proofs.Asking.{Surveys}
+use Rattle.processor_walks.proofs.Callees.{Surveys}
 use Rattle.processor_element.proofs.Accessing.{Said, Says, Fits, Cores, access-meets}
 use Rattle.link_element_access.proofs.set_element.Symbol as core-def
 use Rattle.link_element_access.proofs.set_element.Symbol.{name as #link-element-access·set-element}

@@ -1,4 +1,4 @@
-use Rattle.link_texts.proofs.Through.{swaps-same}
+use Rattle.link_texts.proofs.TextAnswers.{swaps-same}
 use borrow.Author.Needs.{needs}
 use Rattle.slc_link.proofs.texts.slc_encode_string.Statement.{statement}
 use Rattle.slc_link.proofs.texts.slc_encode_string.Tie as tie

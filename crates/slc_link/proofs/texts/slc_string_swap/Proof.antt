@@ -1,4 +1,4 @@
-use Rattle.link_texts.proofs.Through.{swaps}
+use Rattle.link_texts.proofs.TextAnswers.{swaps}
 use borrow.Author.Needs.{needs}
 use Rattle.slc_link.proofs.texts.slc_string_swap.Statement.{statement}
 use Rattle.slc_link.proofs.texts.slc_string_swap.Tie as tie

@@ -1,0 +1,90 @@
+-- Laws of the table of file types.
+use Prim.Native.Nat.{ℕ, _≤_}
+use mathlib.Core.Path.{_≡_, refl, ap, sym, subst, _∙_}
+use mathlib.Core.List.{List, [], _∷_, map}
+use mathlib.Core.Bool.{Bool, true, false, cond}
+use borrow.Author.Tests.{eq-eqb, ne-eqb}
+use lib.Dec.{eqb, lit≤}
+use lib.ListN.{getD}
+use Rattle.file_type.specs.declared.FileType.{FileType}
+use Rattle.file_type.specs.declared.FileType.the-variants.{O, I, S, B, T, C, R, N, F, ST, A, L, MG, PD, PLS}
+use Rattle.file_type.specs.declared.Known.{Known}
+use Rattle.file_type.specs.declared.Known.the-variants as known
+use Rattle.file_type.specs.Fields.{placeOf, lettersIn}
+use Rattle.file_type.specs.Table.{row, all, named, Named, first, ofCode}
+
+-- the code of each type is that type's alone
+pub own-code : (t : FileType) → known.Is t ≡ ofCode (row t .code)
+unfolding ofCode first
+own-code O = refl
+own-code I = refl
+own-code S = refl
+own-code B = refl
+own-code T = refl
+own-code C = refl
+own-code R = refl
+own-code N = refl
+own-code F = refl
+own-code ST = refl
+own-code A = refl
+own-code L = refl
+own-code MG = refl
+own-code PD = refl
+own-code PLS = refl
+
+pub has-code : (t : FileType) (c : ℕ) → c ≡ row t .code → known.Is t ≡ ofCode c
+has-code t c e = own-code t ∙ ap ofCode (sym e)
+
+-- a code that is none of theirs, beside what else is known, as a `match` leaves it
+abbrev pub NoneOf : Type 0 → List FileType → ℕ → Type 0
+NoneOf X [] c = X
+NoneOf X (t ∷ ts) c = NoneOf (X × (c ≡ row t .code → ⊥)) ts c
+
+none-passes : (X : Type 0) (ts : List FileType) (c : ℕ) → NoneOf X ts c → X × (known.Unknown ≡ first (λ (t : FileType). eqb (row t .code) c) ts)
+unfolding first
+none-passes X [] c h = (h, refl)
+none-passes X (t ∷ ts) c h =
+    let r : (X × (c ≡ row t .code → ⊥)) × (known.Unknown ≡ first (λ (t : FileType). eqb (row t .code) c) ts) = none-passes (X × (c ≡ row t .code → ⊥)) ts c h in
+    (r .0 .0, rw (ne-eqb (row t .code) c (λ (e : row t .code ≡ c). r .0 .1 (sym e))) (r .1))
+
+pub no-code : (c : ℕ) → NoneOf (Unit {0}) all c → known.Unknown ≡ ofCode c
+unfolding ofCode
+no-code c h = none-passes (Unit {0}) all c h .1
+
+-- the code's table of names
+abbrev texts : List (List ℕ)
+texts = map (λ (t : FileType). named (row t .name) .text) all
+
+-- the name of each type stands there at its place
+name-there : (t : FileType) → Named (row t .name) (record { text = getD texts (placeOf t) []; len = lettersIn (getD texts (placeOf t) []) })
+name-there O = record { is = refl; fits = lit≤ tt }
+name-there I = record { is = refl; fits = lit≤ tt }
+name-there S = record { is = refl; fits = lit≤ tt }
+name-there B = record { is = refl; fits = lit≤ tt }
+name-there T = record { is = refl; fits = lit≤ tt }
+name-there C = record { is = refl; fits = lit≤ tt }
+name-there R = record { is = refl; fits = lit≤ tt }
+name-there N = record { is = refl; fits = lit≤ tt }
+name-there F = record { is = refl; fits = lit≤ tt }
+name-there ST = record { is = refl; fits = lit≤ tt }
+name-there A = record { is = refl; fits = lit≤ tt }
+name-there L = record { is = refl; fits = lit≤ tt }
+name-there MG = record { is = refl; fits = lit≤ tt }
+name-there PD = record { is = refl; fits = lit≤ tt }
+name-there PLS = record { is = refl; fits = lit≤ tt }
+
+pub has-name : (t : FileType) {p n : ℕ} → (p ≡ placeOf t) × (p ≤ 14) → n ≡ lettersIn (getD texts p []) → Named (row t .name) (record { text = getD texts p []; len = n })
+has-name t {p} {n} e g =
+    subst (λ (k : ℕ). Named (row t .name) (record { text = getD texts p []; len = k })) (sym g)
+    (subst (λ (k : ℕ). Named (row t .name) (record { text = getD texts k []; len = lettersIn (getD texts k []) })) (sym (e .0)) (name-there t))
+
+-- how many bytes it has
+module _ (text : List ℕ) where
+  pub one-letter : getD text 1 0 ≡ 0 → 1 ≡ lettersIn text
+  one-letter e = rw e
+
+  pub two-letters : (getD text 1 0 ≡ 0 → ⊥) → getD text 2 0 ≡ 0 → 2 ≡ lettersIn text
+  two-letters n e = rw (ne-eqb (getD text 1 0) 0 n, e)
+
+  pub three-letters : (getD text 1 0 ≡ 0 → ⊥) → (getD text 2 0 ≡ 0 → ⊥) → 3 ≡ lettersIn text
+  three-letters n m = rw (ne-eqb (getD text 1 0) 0 n, ne-eqb (getD text 2 0) 0 m)

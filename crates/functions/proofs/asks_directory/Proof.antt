@@ -1,7 +1,0 @@
-use borrow.Author.Needs.{needs}
-use Rattle.functions.proofs.Functions.{directory-A1, directory-else}
-use Rattle.functions.proofs.asks_directory.Statement.{statement}
-use Rattle.functions.proofs.asks_directory.Tie as tie
-
-pub asks-directory-spec : {M : Type 1} → statement M
-asks-directory-spec = tie.close (tie.spec (λ c. search (directory-A1, needs)) (λ c. search (directory-else, needs)))

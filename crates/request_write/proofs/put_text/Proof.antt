@@ -1,0 +1,21 @@
+use Rattle.request_frame.proofs.Laid.{lays}
+use Rattle.request_spec.proofs.Supplied.{ascii-laid, string-laid}
+use borrow.Author.Needs.{needs}
+use Rattle.request_write.proofs.put_text.Statement.{statement}
+use Rattle.request_write.proofs.put_text.Tie as tie
+
+pub put-text-spec : {M : Type 1} → statement M
+put-text-spec =
+    tie.close
+    (tie.spec
+    (λ c κs. search needs)
+    (λ c κs. search needs)
+    (λ c. search needs)
+    (λ c κs. search needs)
+    (λ c. search needs)
+    (λ c. search (ascii-laid, lays, needs))
+    (λ c κs. search needs)
+    (λ c. search needs)
+    (λ c κs. search needs)
+    (λ c. search needs)
+    (λ c. search (string-laid, lays, needs)))
