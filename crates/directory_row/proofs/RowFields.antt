@@ -5,14 +5,13 @@ use mathlib.Core.List.{List}
 use native.Mathlib.Nat.{div-le-self}
 use native.Mathlib.Omega.{arith}
 use borrow.Author.Tests.{lt-ltb, le-ltb, eq-eqb, ne-eqb}
-use lib.Dec.{lit<}
 use lib.ListN.{length, take, drop, length-drop}
 use mir.Syntax.{w16, w32}
 use mir.Val.{Fits}
 use Rattle.base.specs.Numbers.{number}
 use Rattle.file_type.specs.declared.FileType.{FileType}
-use Rattle.file_type.specs.declared.FileType.the-variants.{O, I, S, B, T, C, R, N, F, ST, A, L, MG, PD, PLS}
 use Rattle.file_type.specs.Table.{row}
+use Rattle.file_type.proofs.FileTypes.{size-some}
 use Rattle.directory_row.specs.declared.Row.the-variants as row·
 use Rattle.directory_row.specs.Row.{fileRow, otherRow, numberOf}
 
@@ -35,24 +34,7 @@ is-other code e = rw (ne-eqb _ _ e)
 
 -- ---- a file's fields
 pub some-size : (t : FileType) (n : ℕ) → n ≡ row t .size → 0 < n
-some-size t n e = subst (λ (k : ℕ). 0 < k) (sym e) (go t)
-  where
-    go : (t : FileType) → 0 < row t .size
-    go O = lit< tt
-    go I = lit< tt
-    go S = lit< tt
-    go B = lit< tt
-    go T = lit< tt
-    go C = lit< tt
-    go R = lit< tt
-    go N = lit< tt
-    go F = lit< tt
-    go ST = lit< tt
-    go A = lit< tt
-    go L = lit< tt
-    go MG = lit< tt
-    go PD = lit< tt
-    go PLS = lit< tt
+some-size t n e = subst (λ (k : ℕ). 0 < k) (sym e) (size-some t)
 
 module _ (t : FileType) (n : ℕ) where
   pub number-kept : (n ≡ 0 → ⊥) → n ≡ numberOf t n

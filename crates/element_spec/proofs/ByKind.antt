@@ -3,12 +3,12 @@ use Prim.Native.Nat.{ℕ, _≤_, _<_}
 use mathlib.Core.Path.{_≡_, refl, sym, subst, _∙_}
 use mathlib.Core.List.{List}
 use native.Mathlib.Omega.{arith}
-use borrow.Author.Tests.{lt-ltb, le-ltb}
-use lib.Dec.{lit≤}
+use borrow.Author.Tests.{leb-true, lt-ltb, le-ltb}
+use lib.Dec.{leb}
 use lib.ListN.{length}
 use Rattle.file_type.specs.declared.FileType.{FileType}
-use Rattle.file_type.specs.declared.FileType.the-variants.{O, I, S, B, T, C, R, N, F, ST, A, L, MG, PD, PLS}
 use Rattle.file_type.specs.Table.{row}
+use Rattle.file_type.proofs.FileTypes.{each}
 use Rattle.element_spec.specs.declared.kind.ElementKind.{ElementKind}
 use Rattle.element_spec.specs.declared.kind.ElementKind.the-variants as kind
 use Rattle.element_spec.specs.declared.Stored.{Stored}
@@ -28,21 +28,7 @@ sizeFor kind.Fields = 6
 sizeFor kind.Other = 0
 
 size-least : (t : FileType) → sizeFor (kindOf t) ≤ row t .size
-size-least O = lit≤ tt
-size-least I = lit≤ tt
-size-least S = lit≤ tt
-size-least B = lit≤ tt
-size-least T = lit≤ tt
-size-least C = lit≤ tt
-size-least R = lit≤ tt
-size-least N = lit≤ tt
-size-least F = lit≤ tt
-size-least ST = lit≤ tt
-size-least A = lit≤ tt
-size-least L = lit≤ tt
-size-least MG = lit≤ tt
-size-least PD = lit≤ tt
-size-least PLS = lit≤ tt
+size-least t = leb-true (sizeFor (kindOf t)) (row t .size) (each (λ (t : FileType). leb (sizeFor (kindOf t)) (row t .size)) refl t)
 
 pub room-for : (K : ElementKind) (t : FileType) {k : ElementKind} {s n : ℕ} → k ≡ kindOf t → k ≡ K → s ≡ row t .size → s ≤ n → sizeFor K ≤ n
 room-for K t {k} {s} {n} e f g h = subst (λ (x : ElementKind). sizeFor x ≤ n) (sym e ∙ f) (omega (arith, size-least t))

@@ -1,18 +1,49 @@
 -- Laws of the table of file types.
-use Prim.Native.Nat.{ℕ, _≤_}
+use Prim.Native.Nat.{ℕ, _≤_, _<_}
 use mathlib.Core.Path.{_≡_, refl, ap, sym, subst, _∙_}
 use mathlib.Core.List.{List, [], _∷_, map}
-use mathlib.Core.Bool.{Bool, true, false, cond}
-use borrow.Author.Tests.{eq-eqb, ne-eqb}
-use lib.Dec.{eqb, lit≤}
+use mathlib.Core.Bool.{Bool, true}
+use borrow.Author.Tests.{ltb-true, leb-true, ne-eqb}
+use lib.Dec.{leb, ltb, eqb, lit≤}
 use lib.ListN.{getD}
+use Rattle.base.proofs.EveryPlace.{everyBelow, at-place}
 use Rattle.file_type.specs.declared.FileType.{FileType}
 use Rattle.file_type.specs.declared.FileType.the-variants.{O, I, S, B, T, C, R, N, F, ST, A, L, MG, PD, PLS}
-use Rattle.file_type.specs.declared.Known.{Known}
 use Rattle.file_type.specs.declared.Known.the-variants as known
 use Rattle.file_type.specs.Fields.{placeOf, lettersIn}
 use Rattle.file_type.specs.Table.{row, all, named, Named, first, ofCode}
 
+-- ---- what a test says of all fifteen, it says of each
+at-own-place : (t : FileType) → (getD all (placeOf t) O ≡ t) × (placeOf t < 15)
+at-own-place O = (refl, lit≤ tt)
+at-own-place I = (refl, lit≤ tt)
+at-own-place S = (refl, lit≤ tt)
+at-own-place B = (refl, lit≤ tt)
+at-own-place T = (refl, lit≤ tt)
+at-own-place C = (refl, lit≤ tt)
+at-own-place R = (refl, lit≤ tt)
+at-own-place N = (refl, lit≤ tt)
+at-own-place F = (refl, lit≤ tt)
+at-own-place ST = (refl, lit≤ tt)
+at-own-place A = (refl, lit≤ tt)
+at-own-place L = (refl, lit≤ tt)
+at-own-place MG = (refl, lit≤ tt)
+at-own-place PD = (refl, lit≤ tt)
+at-own-place PLS = (refl, lit≤ tt)
+
+pub each : (test : FileType → Bool) → everyBelow (λ (i : ℕ). test (getD all i O)) 15 ≡ true → (t : FileType) → test t ≡ true
+each test h t = ap test (sym (at-own-place t .0)) ∙ at-place (λ (i : ℕ). test (getD all i O)) 15 h (placeOf t) (at-own-place t .1)
+
+pub size-some : (t : FileType) → 0 < row t .size
+size-some t = ltb-true 0 (row t .size) (each (λ (t : FileType). ltb 0 (row t .size)) refl t)
+
+pub size-most : (t : FileType) → row t .size ≤ 84
+size-most t = leb-true (row t .size) 84 (each (λ (t : FileType). leb (row t .size) 84) refl t)
+
+pub code-most : (t : FileType) → row t .code ≤ 255
+code-most t = leb-true (row t .code) 255 (each (λ (t : FileType). leb (row t .code) 255) refl t)
+
+-- ---- codes
 -- the code of each type is that type's alone
 pub own-code : (t : FileType) → known.Is t ≡ ofCode (row t .code)
 unfolding ofCode first

@@ -1,3 +1,4 @@
 pub mod FieldNames
 pub mod Names
 pub mod FileTypes
+pub mod ElementSizes

@@ -63,6 +63,15 @@ first test (t ∷ ts) = cond (test t) (known.Is t) (first test ts)
 unfoldable pub ofCode : ℕ → Known
 ofCode c = first (λ (t : FileType). eqb (row t .code) c) all
 
+-- the element size of a type that the simulator knows, 0 where there is none
+abbrev pub simulatedSize : Known → ℕ
+simulatedSize known.Unknown = 0
+simulatedSize (known.Is t) = cond (row t .simulated) (row t .size) 0
+
+-- the same by the type code
+unfoldable pub elementSize : ℕ → ℕ
+elementSize code = simulatedSize (ofCode code)
+
 -- the type of a name, capital letters only
 unfoldable pub ofName : List ℕ → Known
 ofName s = first (λ (t : FileType). spelled false (row t .name) s) all

@@ -4,7 +4,7 @@ ghost use Prim.Native.Nat.{_≤_};
 ghost use lib.ListN.{take};
 ghost use Rattle.base.specs.Chars.{spelled};
 ghost use Rattle.file_type.specs.Fields.{placeOf, lettersIn};
-ghost use Rattle.file_type.specs.Table.{row, Named, ofCode, ofName};
+ghost use Rattle.file_type.specs.Table.{row, Named, ofCode, elementSize, ofName};
 
 pub enum FileType {
     O,
@@ -185,6 +185,19 @@ impl FileType {
         }
         Known::Unknown
     }
+}
+
+// Bytes an element has of a type that the simulator knows, 0 for any other code.
+pub fn simulated_size(code: u8) -> usize
+    ensures { λ r. ⌜ r ≡ elementSize code ⌝ }
+{
+    let Known::Is(t) = FileType::from_code(code) else {
+        return 0;
+    };
+    if !t.simulated() {
+        return 0;
+    }
+    t.element_size()
 }
 
 const FILE_TYPES: [FileType; 15] = [

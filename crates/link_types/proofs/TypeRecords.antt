@@ -14,7 +14,7 @@ use Rattle.file_type.specs.declared.Known.the-variants as known
 use Rattle.file_type.specs.declared.Name.{Name}
 use Rattle.file_type.specs.Table.{row, bitNames, Named}
 use Rattle.file_type.proofs.FieldNames.{bits-most}
-use Rattle.request_spec.proofs.RequestQuestions.{sizes}
+use Rattle.file_type.proofs.FileTypes.{size-most}
 use Rattle.link_types.specs.declared.SlcField.{SlcField}
 use Rattle.link_types.specs.declared.SlcName.{SlcName}
 use Rattle.link_types.specs.Types.{flag, knownType, shortName, nameRecord, fieldIn, fieldRecord}
@@ -38,7 +38,7 @@ as-flag false = refl
 -- ---- file types
 module _ (t : FileType) {n : ℕ} where
   pub size-fits : n ≡ row t .size → Fits w8 n
-  size-fits h = omega (arith, sizes t)
+  size-fits h = omega (arith, size-most t)
 
   pub bits-fit : n ≡ length (bitNames t) → Fits w8 n
   bits-fit h = omega (arith, bits-most t)

@@ -4,7 +4,7 @@ use mathlib.Core.Path.{_≡_, refl, sym, ap, ap₂, _∙_}
 use mathlib.Core.Bool.{Bool, true, false}
 use mathlib.Core.List.{List, _++_}
 use native.Mathlib.Omega.{arith}
-use borrow.Author.Tests.{leb-true, leb-false, eq-eqb, ne-eqb}
+use borrow.Author.Tests.{leb-true, leb-false}
 use lib.Dec.{leb}
 use lib.ListN.{length, take, drop, set, replicate, length-replicate}
 use lib.Seq.{length-take-le, take-all}
@@ -13,6 +13,7 @@ use Rattle.base.proofs.Parts.{drop-replicate}
 use Rattle.base.proofs.Put.{put-none, put-cons}
 use Rattle.element_text.specs.Text.{fitted}
 use Rattle.processor_spec.specs.declared.Made.the-variants as made
+use Rattle.processor_spec.specs.declared.Refusal.the-variants as refusal
 use Rattle.processor_spec.specs.declared.Slc.{Slc}
 use Rattle.processor_spec.specs.Build.{noSlc}
 use Rattle.processor_build_spec.specs.declared.Judged.{Judged}
@@ -63,11 +64,11 @@ slc-is files text count t e = λ i. record { files = files; «type_text» = e i;
 
 -- ---- the end
 module _ (j : Judged) (text : List ℕ) (count : ℕ) (memory : List ℕ) (slc : Slc) where
-  pub finish-refused : slc ≡ noSlc → (j .refused ≡ 0 → ⊥) → ended (record { slc = slc; made = made.Refused (j .refused) }) memory ≡ finishOf j text count memory
+  pub finish-refused : (n : ℕ) → j .refusal ≡ refusal.Number n → slc ≡ noSlc → ended (record { slc = slc; made = made.Refused n }) memory ≡ finishOf j text count memory
   unfolding finishOf
-  finish-refused e nz = rw (ne-eqb (j .refused) 0 nz, e)
+  finish-refused n i e = rw (i, e)
 
-  pub finish-done : (m : List ℕ) → slc ≡ slcWith (j .records) text count → m ≡ put memory 0 (replicate (min (j .total) (length memory)) 0) → j .refused ≡ 0
+  pub finish-done : (m : List ℕ) → j .refusal ≡ refusal.None → slc ≡ slcWith (j .records) text count → m ≡ put memory 0 (replicate (min (j .total) (length memory)) 0)
       → ended (record { slc = slc; made = made.Ready }) m ≡ finishOf j text count memory
   unfolding finishOf
-  finish-done m e q z = rw (eq-eqb (j .refused) 0 z, e, q)
+  finish-done m i e q = rw (i, e, q)

@@ -1,5 +1,5 @@
 -- The questions of building, in their order.
-use Prim.Native.Nat.{ℕ, _-_, _≤_, _<_}
+use Prim.Native.Nat.{ℕ, _-_, _≤_}
 use mathlib.Core.Path.{_≡_, refl, sym, ap, ap₂, _∙_}
 use mathlib.Core.Bool.{Bool, true, false, not, _&&_, cond}
 use mathlib.Core.List.{List, [], _∷_, map}
@@ -11,11 +11,13 @@ use lib.ListN.{length, take, drop, getD, replicate}
 use lib.Seq.{take-at, take-all}
 use Rattle.element_text.specs.Text.{fitted}
 use Rattle.processor_spec.specs.declared.FileRecord.{FileRecord}
-use Rattle.processor_spec.specs.Build.{Wanted, wantedOf, defaults, orDefaults, has, fileRefusal, recordsOf, planned, fits, logFits, orThen, buildRefusal, planOf}
+use Rattle.processor_spec.specs.declared.Refusal.{Refusal}
+use Rattle.processor_spec.specs.declared.Refusal.the-variants as refusal
+use Rattle.processor_spec.specs.Build.{wantedOf, defaults, orDefaults, fileRefusal, recordsOf, planned, fits, logFits, orThen, buildRefusal, planOf}
 use Rattle.processor_spec.specs.Plain.{entries, holds}
-use Rattle.processor_spec.specs.State.{knownCode, total, goodText, goodLog}
+use Rattle.processor_spec.specs.Refusals.{refusalOf}
+use Rattle.processor_spec.specs.State.{total, goodText, goodLog}
 use Rattle.processor_build_spec.specs.declared.Judged.{Judged}
-use Rattle.processor_build_files.specs.ByNumber.{refusalNumber, filesRefused}
 use Rattle.processor_build_spec.specs.Plans.{refusedWith, judged, judgedOf, roomFor, listJudged, noRecord, narrowed, recordOf}
 
 -- ---- 13, of the text in its array
@@ -30,20 +32,11 @@ text-asked text ts e = go (leb (length text) 11) refl
     go true t = ap goodText (ap (take (length text)) e ∙ text-back text (leb-true (length text) 11 t))
     go false t = unfold goodText in rw t
 
--- ---- a refusal has a number
-none-zero : (seen : List ℕ) (ws : List Wanted) → refusalNumber (fileRefusal seen ws) ≡ 0 → fileRefusal seen ws ≡ none
-unfolding fileRefusal
-none-zero seen [] e = refl
-none-zero seen (w ∷ ws) e = go (knownCode (w .code)) (leb (w .number) 255 && not (has (w .number) seen)) e (none-zero (w .number ∷ seen) ws)
-  where
-    go : (k b : Bool) → refusalNumber (cond k (cond b (fileRefusal (w .number ∷ seen) ws) (some 12)) (some 11)) ≡ 0
-        → (refusalNumber (fileRefusal (w .number ∷ seen) ws) ≡ 0 → fileRefusal (w .number ∷ seen) ws ≡ none)
-        → cond k (cond b (fileRefusal (w .number ∷ seen) ws) (some 12)) (some 11) ≡ none
-    go false b e ih = absurd (omega arith)
-    go true false e ih = absurd (omega arith)
-    go true true e ih = ih e
+-- ---- the questions, one after the other
+other-refusal : (n : ℕ) → refusal.None ≡ refusal.Number n → ⊥
+other-refusal n e = let z : _≡_ {A = ℕ} 0 1 = cc in omega arith
 
-module _ (fs : List (List ℕ)) (text log : List ℕ) (count t m n : ℕ) (e : n ≡ filesRefused fs) where
+module _ (fs : List (List ℕ)) (text log : List ℕ) (count t m : ℕ) (o : Refusal) (e : o ≡ refusalOf (fileRefusal [] (map wantedOf fs))) where
   abbrev rs : List FileRecord
   rs = recordsOf (map wantedOf fs)
 
@@ -51,18 +44,22 @@ module _ (fs : List (List ℕ)) (text log : List ℕ) (count t m n : ℕ) (e : n
   abbrev then : Option ℕ
   then = cond (goodText text) (cond (fits rs t m) (cond (logFits count log) none (some 15)) (some 14)) (some 13)
 
-  pub judge-files : (r : Judged) → (n ≡ 0 → ⊥) → r ≡ refusedWith n → r ≡ listJudged fs text log count t m
-  unfolding listJudged filesRefused
-  judge-files r nz q = go (fileRefusal [] (map wantedOf fs)) e
+  pub judge-files : (n : ℕ) (r : Judged) → o ≡ refusal.Number n → r ≡ refusedWith n → r ≡ listJudged fs text log count t m
+  unfolding listJudged
+  judge-files n r i q = go (fileRefusal [] (map wantedOf fs)) e
     where
-      go : (o : Option ℕ) → n ≡ refusalNumber o → r ≡ judged (orThen o then) rs
-      go none z = absurd (nz z)
-      go (some k) z = q ∙ ap refusedWith z
+      go : (x : Option ℕ) → o ≡ refusalOf x → r ≡ judged (orThen x then) rs
+      go none f = absurd (other-refusal n (sym f ∙ i))
+      go (some k) f = let g : n ≡ k = cc in q ∙ ap refusedWith g
 
-  module _ (z : n ≡ 0) where
+  module _ (i : o ≡ refusal.None) where
     passed : listJudged fs text log count t m ≡ judged then rs
-    unfolding listJudged filesRefused
-    passed = ap (λ (o : Option ℕ). judged (orThen o then) rs) (none-zero [] (map wantedOf fs) (sym e ∙ z))
+    unfolding listJudged
+    passed = go (fileRefusal [] (map wantedOf fs)) e
+      where
+        go : (x : Option ℕ) → o ≡ refusalOf x → judged (orThen x then) rs ≡ judged then rs
+        go none f = refl
+        go (some k) f = absurd (other-refusal k (sym i ∙ f))
 
     pub judge-text : (ts : List ℕ) (g : Bool) (r : Judged) → ts ≡ fitted 11 0 text → g ≡ (leb (length text) 11 && goodText (take (length text) ts)) → not g ≡ true → r ≡ refusedWith 13 → r ≡ listJudged fs text log count t m
     judge-text ts g r et eg off q = q ∙ sym (passed ∙ rw (sym (eg ∙ text-asked text ts et) ∙ not-true g off))
@@ -82,10 +79,10 @@ module _ (fs : List (List ℕ)) (text log : List ℕ) (count t m n : ℕ) (e : n
       unfolding logFits
       judge-log l r fit el off q = q ∙ sym (passed ∙ rw (good, sym room ∙ not-false y fit, sym el ∙ not-true l off))
 
-      pub judge-ready : (l : Bool) → not y ≡ false → l ≡ (holds count (drop 0 log) && goodLog (entries count (drop 0 log))) → not l ≡ false → _≡_ {A = Judged} (record { refused = 0; records = records; total = bytes }) (listJudged fs text log count t m)
+      pub judge-ready : (l : Bool) → not y ≡ false → l ≡ (holds count (drop 0 log) && goodLog (entries count (drop 0 log))) → not l ≡ false → _≡_ {A = Judged} (record { refusal = refusal.None; records = records; total = bytes }) (listJudged fs text log count t m)
       unfolding logFits
       judge-ready l fit el whole =
-          (λ i. record { refused = 0; records = s .0 i; total = s .1 i }) ∙ sym (passed ∙ rw (good, sym room ∙ not-false y fit, sym el ∙ not-false l whole))
+          (λ k. record { refusal = refusal.None; records = s .0 k; total = s .1 k }) ∙ sym (passed ∙ rw (good, sym room ∙ not-false y fit, sym el ∙ not-false l whole))
 
 -- ---- the default files
 abbrev defaultFiles : List (List ℕ)

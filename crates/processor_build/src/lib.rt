@@ -11,6 +11,7 @@ use processor_build_spec::Judged;
 use processor_spec::Built;
 use processor_spec::FileRecord;
 use processor_spec::Made;
+use processor_spec::Refusal;
 use processor_spec::Slc;
 
 // The files of an empty list, O to F: number, type code, elements.
@@ -37,8 +38,7 @@ fn judge_list(
 ) -> Judged
     ensures { λ r. ⌜ r ≡ listJudged (now (files .entry)) (now (text .entry)) (now (log .entry)) count «table_length» «memory_length» ⌝ }
 {
-    let n = processor_build_files::refused(files);
-    if n != 0 {
+    if let Refusal::Number(n) = processor_build_files::refused(files) {
         return processor_build_spec::refuse(n);
     }
     if !processor_soundness::good_text(type_text(text), text.len()) {
@@ -52,7 +52,7 @@ fn judge_list(
         return processor_build_spec::refuse(15);
     }
     Judged {
-        refused: 0,
+        refusal: Refusal::None,
         records: s.records,
         total: s.total,
     }
@@ -135,10 +135,11 @@ fn no_slc() -> Slc
 pub fn finish(j: Judged, text: &[u8], count: usize, memory: &mut [u8]) -> Built
     ensures { λ r. ⌜ ended r (now (memory .exit)) ≡ finishOf j (now (text .entry)) count (now (memory .entry)) ⌝ }
 {
-    if j.refused != 0 {
+    let refusal = j.refusal;
+    if let Refusal::Number(n) = refusal {
         return Built {
             slc: no_slc(),
-            made: Made::Refused(j.refused),
+            made: Made::Refused(n),
         };
     }
     clear(memory, j.total);

@@ -1,3 +1,3 @@
-pub mod ElementSizes
+pub mod FileBytes
 pub mod Refusing
 pub mod ByNumber

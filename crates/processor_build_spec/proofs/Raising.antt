@@ -1,28 +1,29 @@
 -- The three parts together are `newOf`: the records that are laid are the planned ones, and a refusal lays none.
 use Prim.Native.Nat.{ℕ, zero, suc, _+_, _≤_, _<_, min}
 use mathlib.Core.Path.{_≡_, refl, sym, ap, ap₂, _∙_}
-use mathlib.Core.Bool.{Bool, true, false, not, _&&_, cond}
+use mathlib.Core.Bool.{Bool, true, false, cond}
 use mathlib.Core.List.{List, [], _∷_, _++_, map}
 use mathlib.Core.Option.{Option, none, some}
 use native.Mathlib.Nat.{mod-eq-of-lt}
 use native.Mathlib.Numerals.{add-one}
 use native.Mathlib.Omega.{arith}
-use borrow.Author.Tests.{eqb-true, leb-true, leb-false, ltb-true, ne-eqb}
+use borrow.Author.Tests.{eqb-true, leb-true, leb-false, ltb-true}
 use lib.Dec.{leb, eqb}
 use lib.ListN.{length, take, drop, getD, set, replicate, length-set}
 use lib.Seq.{drop-cons, take-suc, take-length, append-snoc, set-at, length-take-le}
 use Rattle.base.specs.Put.{put}
 use Rattle.parser_spec.proofs.Held.{no-some}
+use Rattle.file_type.specs.Table.{elementSize}
+use Rattle.file_type.proofs.ElementSizes.{size-above}
 use Rattle.processor_spec.specs.declared.Built.{Built}
 use Rattle.processor_spec.specs.declared.FileRecord.{FileRecord}
-use Rattle.processor_spec.specs.Build.{Wanted, wantedOf, orDefaults, has, fileRefusal, Plan, planned, fits, logFits, orThen, buildRefusal, slcOf, raise, newOf, planOf, raised}
-use Rattle.processor_spec.specs.State.{every, elementSize, knownCode, goodRecord, endToEnd, total, goodText, goodTable}
+use Rattle.processor_spec.specs.Build.{wantedOf, orDefaults, fileRefusal, Plan, planned, fits, logFits, orThen, buildRefusal, slcOf, raise, newOf, planOf, raised}
+use Rattle.processor_spec.specs.State.{every, knownCode, goodRecord, endToEnd, total, goodText, goodTable}
 use Rattle.processor_spec.proofs.NewSound.{builtState, built-sound}
 use Rattle.processor_spec.proofs.Files.{sound-table}
 use Rattle.processor_spec.proofs.Tests.{and-l, and-r}
 use Rattle.processor_build_spec.specs.declared.Judged.{Judged}
 use Rattle.processor_build_spec.specs.Plans.{refusedWith, judged, judgedOf, noRecord, narrowed, recordOf, stored, laidOf, Ended, ended, slcWith, finishOf}
-use Rattle.processor_build_spec.proofs.Codes.{size-above}
 
 -- ---- the records of a good table are as narrow as their fields
 code-byte : (code : ℕ) → knownCode code ≡ true → code < 256
@@ -32,7 +33,7 @@ code-byte code h = go (leb code 255) refl
     go : (b : Bool) → leb code 255 ≡ b → code < 256
     go true e = omega (arith, leb-true code 255 e)
     go false e =
-        let z : elementSize code ≡ 0 = size-above code (leb-false code 255 e) in
+        let z : 0 ≡ elementSize code = size-above code (leb-false code 255 e) in
         let l : 0 < elementSize code = ltb-true 0 (elementSize code) h in
         absurd (omega arith)
 
@@ -81,28 +82,6 @@ laid-none : (fs : List (List ℕ)) (old : List FileRecord) → laidOf fs 0 old �
 unfolding laidOf stored
 laid-none fs old = let m : min 0 (length old) ≡ 0 = omega arith in ap (λ (k : ℕ). stored fs k old) m
 
--- ---- a refusal has a number
-numbered : (seen : List ℕ) (ws : List Wanted) (n : ℕ) → fileRefusal seen ws ≡ some n → n ≡ 0 → ⊥
-unfolding fileRefusal
-numbered seen [] n e z = no-some e
-numbered seen (w ∷ ws) n e z = go (knownCode (w .code)) (leb (w .number) 255 && not (has (w .number) seen)) e (λ f. numbered (w .number ∷ seen) ws n f z)
-  where
-    go : (k b : Bool) → cond k (cond b (fileRefusal (w .number ∷ seen) ws) (some 12)) (some 11) ≡ some n → (fileRefusal (w .number ∷ seen) ws ≡ some n → ⊥) → ⊥
-    go false b e ih = let q : 11 ≡ n = cc in absurd (omega arith)
-    go true false e ih = let q : 12 ≡ n = cc in absurd (omega arith)
-    go true true e ih = ih e
-
-refusal-numbered : (p : Plan) (t m n : ℕ) → buildRefusal p t m ≡ some n → n ≡ 0 → ⊥
-unfolding buildRefusal
-refusal-numbered p t m n e z = go (fileRefusal [] (orDefaults (p .files))) refl (goodText (p .text)) (fits (planned p) t m) (logFits (p .count) (p .log)) e
-  where
-    go : (o : Option ℕ) → fileRefusal [] (orDefaults (p .files)) ≡ o → (x y l : Bool) → orThen o (cond x (cond y (cond l none (some 15)) (some 14)) (some 13)) ≡ some n → ⊥
-    go (some k) f x y l e = let q : k ≡ n = cc in numbered [] (orDefaults (p .files)) k f (q ∙ z)
-    go none f false y l e = let q : 13 ≡ n = cc in absurd (omega arith)
-    go none f true false l e = let q : 14 ≡ n = cc in absurd (omega arith)
-    go none f true true false e = let q : 15 ≡ n = cc in absurd (omega arith)
-    go none f true true true e = no-some e
-
 -- ---- the parts together
 module _ (fs : List (List ℕ)) (text log : List ℕ) (count : ℕ) (table : List FileRecord) (memory : List ℕ) where
   abbrev p : Plan
@@ -139,13 +118,10 @@ module _ (fs : List (List ℕ)) (text log : List ℕ) (count : ℕ) (table : Lis
         let w : ended b m ≡ ended (raise none p table memory .built) (put memory 0 (replicate (total (planned p)) 0)) = em ∙ ap (λ (j : ℕ). ended (raise none p table memory .built) (put memory 0 (replicate j 0))) k in
         ap₂ (λ (x : Ended) (y : List FileRecord). raised (x .built) y (x .memory)) w q
 
-  built-refused : (n : ℕ) → buildRefusal p (length table) (length memory) ≡ some n → (b : Built) (t : List FileRecord) (m : List ℕ) → t ≡ laidOf fs 0 table
+  built-refused : (n : ℕ) (b : Built) (t : List FileRecord) (m : List ℕ) → t ≡ laidOf fs 0 table
       → ended b m ≡ finishOf (refusedWith n) text count memory → raised b t m ≡ raise (some n) p table memory
   unfolding finishOf refusedWith
-  built-refused n e b t m et em =
-      let q : t ≡ table = et ∙ laid-none fs table in
-      let w : ended b m ≡ ended (raise (some n) p table memory .built) memory = em ∙ rw (ne-eqb n 0 (refusal-numbered p (length table) (length memory) n e)) in
-      ap₂ (λ (x : Ended) (y : List FileRecord). raised (x .built) y (x .memory)) w q
+  built-refused n b t m et em = ap₂ (λ (x : Ended) (y : List FileRecord). raised (x .built) y (x .memory)) em (et ∙ laid-none fs table)
 
   -- what is judged, then laid, then finished, is what `newOf` gives
   pub new-is : (j : Judged) (b : Built) (t : List FileRecord) (m : List ℕ) → j ≡ judgedOf p (length table) (length memory) → t ≡ laidOf fs (j .records) table
@@ -156,4 +132,4 @@ module _ (fs : List (List ℕ)) (text log : List ℕ) (count : ℕ) (table : Lis
       go : (o : Option ℕ) → buildRefusal p (length table) (length memory) ≡ o → j ≡ judged o (planned p) → raised b t m ≡ raise o p table memory
       go none e q = built-ready e b t m (et ∙ ap (λ (x : Judged). laidOf fs (x .records) table) q) (em ∙ ap (λ (x : Judged). finishOf x text count memory) q)
       go (some n) e q =
-          built-refused n e b t m (et ∙ ap (λ (x : Judged). laidOf fs (x .records) table) q ∙ unfold refusedWith in refl) (em ∙ ap (λ (x : Judged). finishOf x text count memory) q)
+          built-refused n b t m (et ∙ ap (λ (x : Judged). laidOf fs (x .records) table) q ∙ unfold refusedWith in refl) (em ∙ ap (λ (x : Judged). finishOf x text count memory) q)

@@ -3,25 +3,27 @@ use Prim.Native.Nat.{ℕ, zero, suc, _%_, min}
 use mathlib.Core.Bool.{Bool, _&&_, cond}
 use mathlib.Core.List.{List, [], map}
 use mathlib.Core.Option.{Option, none, some}
-use lib.Dec.{leb, eqb}
+use lib.Dec.{leb}
 use lib.ListN.{length, getD, set, replicate}
 use Rattle.base.specs.Put.{put}
 use Rattle.element_text.specs.Text.{fitted}
 use Rattle.processor_spec.specs.declared.Built.{Built}
 use Rattle.processor_spec.specs.declared.FileRecord.{FileRecord}
 use Rattle.processor_spec.specs.declared.Made.the-variants as made
+use Rattle.processor_spec.specs.declared.Refusal.{Refusal}
+use Rattle.processor_spec.specs.declared.Refusal.the-variants as refusal
 use Rattle.processor_spec.specs.declared.Slc.{Slc}
 use Rattle.processor_spec.specs.Build.{wantedOf, orDefaults, fileRefusal, recordsOf, Plan, planned, fits, logFits, orThen, buildRefusal, noSlc}
 use Rattle.processor_spec.specs.State.{total, goodText}
 use Rattle.processor_build_spec.specs.declared.Judged.{Judged}
 
--- the number of the question that was answered with no; or 0, how many records there are, and how many bytes the files have
+-- the number of the question that was answered with no; or how many records there are, and how many bytes the files have
 unfoldable pub refusedWith : ℕ → Judged
-refusedWith n = record { refused = n; records = 0; total = 0 }
+refusedWith n = record { refusal = refusal.Number n; records = 0; total = 0 }
 
 abbrev pub judged : Option ℕ → List FileRecord → Judged
 judged (some n) rs = refusedWith n
-judged none rs = record { refused = 0; records = length rs; total = total rs }
+judged none rs = record { refusal = refusal.None; records = length rs; total = total rs }
 
 unfoldable pub judgedOf : Plan → ℕ → ℕ → Judged
 judgedOf p tableLength memoryLength = judged (buildRefusal p tableLength memoryLength) (planned p)
@@ -75,8 +77,10 @@ unfoldable pub slcWith : ℕ → List ℕ → ℕ → Slc
 slcWith files text count = record { files = files; «type_text» = fitted 11 0 text; «type_len» = length text; «log_at» = 0; «log_left» = count }
 
 -- a refusal changes nothing; else the files' bytes are zero
+abbrev pub finish : Refusal → ℕ → ℕ → List ℕ → ℕ → List ℕ → Ended
+finish (refusal.Number n) records bytes text count memory = ended (record { slc = noSlc; made = made.Refused n }) memory
+finish refusal.None records bytes text count memory =
+    ended (record { slc = slcWith records text count; made = made.Ready }) (put memory 0 (replicate (min bytes (length memory)) 0))
+
 unfoldable pub finishOf : Judged → List ℕ → ℕ → List ℕ → Ended
-finishOf j text count memory =
-    cond (eqb (j .refused) 0)
-    (ended (record { slc = slcWith (j .records) text count; made = made.Ready }) (put memory 0 (replicate (min (j .total) (length memory)) 0)))
-    (ended (record { slc = noSlc; made = made.Refused (j .refused) }) memory)
+finishOf j text count memory = finish (j .refusal) (j .records) (j .total) text count memory

@@ -1,6 +1,7 @@
 // Building a processor, the plan: the definitions of its parts, how a list of files is judged, and question 14.
 ghost use mathlib.Core.Path.{_≡_};
 ghost use Rattle.processor_build_spec.specs.Plans.{refusedWith, roomFor};
+use processor_spec::Refusal;
 
 // How many records and bytes a list of files has.
 pub struct Sums {
@@ -8,10 +9,9 @@ pub struct Sums {
     pub total: usize,
 }
 
-// How a list of files was judged: the number of the question that was answered with no; or 0, and how many records and
-// bytes the files have.
+// How a list of files was judged, and how many records and bytes it has: 0 where it was refused.
 pub struct Judged {
-    pub refused: u8,
+    pub refusal: Refusal,
     pub records: usize,
     pub total: usize,
 }
@@ -20,7 +20,7 @@ pub fn refuse(n: u8) -> Judged
     ensures { λ r. ⌜ r ≡ refusedWith n ⌝ }
 {
     Judged {
-        refused: n,
+        refusal: Refusal::Number(n),
         records: 0,
         total: 0,
     }

@@ -11,7 +11,7 @@ use lib.ListN.{length, take, drop}
 use Rattle.base.specs.Outcome.{Outcome, refused}
 use Rattle.element_spec.specs.Decode.{Says, refuses}
 use Rattle.file_type.specs.declared.FileType.{FileType}
-use Rattle.file_type.specs.Table.{row}
+use Rattle.file_type.specs.Table.{row, simulatedSize, elementSize}
 use Rattle.file_type.proofs.FileTypes.{own-code}
 use Rattle.parser_spec.proofs.Held.{no-some}
 use Rattle.processor_spec.specs.declared.FileRecord.{FileRecord}
@@ -19,7 +19,7 @@ use Rattle.processor_spec.specs.declared.Slc.{Slc}
 use Rattle.processor_spec.specs.ElementAccess.{elementAt, setAt, setOf, readAt, readOf}
 use Rattle.processor_spec.specs.Files.{find, offset, placeIn, locate}
 use Rattle.processor_spec.specs.Plain.{entries, holds, within, heldState, noState, stateOf}
-use Rattle.processor_spec.specs.State.{State, every, simulatedSize, elementSize, knownCode, goodRecord, total, goodText, goodLog, goodTable, sound}
+use Rattle.processor_spec.specs.State.{State, every, knownCode, goodRecord, total, goodText, goodLog, goodTable, sound}
 use Rattle.processor_spec.proofs.Files.{sound-table}
 use Rattle.processor_spec.proofs.Plain.{sound-plain, sound-within, held-is}
 use Rattle.processor_spec.proofs.Tests.{and-l, and-r}

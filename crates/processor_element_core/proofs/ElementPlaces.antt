@@ -7,35 +7,18 @@ use mathlib.Core.Option.{none, some}
 use native.Mathlib.Nat.{div-lt-iff-lt-mul, suc-mul}
 use native.Mathlib.Omega.{arith}
 use borrow.Author.Tests.{leb-true, leb-false, le-leb, lt-leb, eq-eqb, ne-eqb, not-true, not-false}
-use lib.Dec.{leb, eqb, lit≤}
+use lib.Dec.{leb, eqb}
 use lib.ListN.{length, take, drop, length-drop, drop-of-length-le}
 use lib.Seq.{take-nil, take-all}
 use Rattle.file_type.specs.declared.FileType.{FileType}
-use Rattle.file_type.specs.declared.FileType.the-variants.{O, I, S, B, T, C, R, N, F, ST, A, L, MG, PD, PLS}
 use Rattle.file_type.specs.Table.{row}
+use Rattle.file_type.proofs.FileTypes.{size-some}
 use Rattle.processor_table.specs.declared.Seen.{Seen}
 use Rattle.processor_element_core.specs.AccessBySurvey.{elementBy}
 
 -- an element has bytes
-pub size-positive : (t : FileType) → 0 < row t .size
-size-positive O = lit≤ tt
-size-positive I = lit≤ tt
-size-positive S = lit≤ tt
-size-positive B = lit≤ tt
-size-positive T = lit≤ tt
-size-positive C = lit≤ tt
-size-positive R = lit≤ tt
-size-positive N = lit≤ tt
-size-positive F = lit≤ tt
-size-positive ST = lit≤ tt
-size-positive A = lit≤ tt
-size-positive L = lit≤ tt
-size-positive MG = lit≤ tt
-size-positive PD = lit≤ tt
-size-positive PLS = lit≤ tt
-
 pub size-divides : (t : FileType) (size : ℕ) → size ≡ row t .size → 0 < size
-size-divides t size e = subst (λ (k : ℕ). 0 < k) (sym e) (size-positive t)
+size-divides t size e = subst (λ (k : ℕ). 0 < k) (sym e) (size-some t)
 
 -- as many elements as the length holds
 past : (l size i : ℕ) → 0 < size → l / size ≤ i → l < i * size + size

@@ -21,6 +21,7 @@ use Rattle.element_spec.specs.declared.Value.{Value}
 use Rattle.element_spec.specs.Encode.{Stores, storedOf, encoded}
 use Rattle.file_type.specs.declared.FileType.{FileType}
 use Rattle.file_type.specs.Table.{row}
+use Rattle.file_type.proofs.FileTypes.{size-some}
 use Rattle.processor_spec.specs.declared.Slc.{Slc}
 use Rattle.processor_spec.specs.ElementAccess.{behind, setAt, readAt}
 use Rattle.processor_table.specs.declared.Seen.{Seen}
@@ -30,7 +31,6 @@ use Rattle.processor_locate.specs.declared.Located.the-variants as place
 use Rattle.processor_locate.specs.Locate.{placeOf}
 use Rattle.processor_element_core.specs.declared.Setting.{Setting}
 use Rattle.processor_element_core.specs.declared.Spot.{Spot}
-use Rattle.processor_element_core.proofs.ElementPlaces.{size-positive}
 use Rattle.processor_element_core.specs.AccessBySurvey.{elementBy, readBy, setHere, setBy}
 
 -- ---- reading
@@ -133,7 +133,7 @@ module _ (m : List ℕ) (at : ℕ) (t : FileType) (v : Value) (text : List ℕ) 
   cut : length m < at + size → length (take (row t .size) (drop at m)) < row t .size
   cut h =
       let a : length (take (row t .size) (drop at m)) ≡ min (row t .size) (length (drop at m)) = length-take (row t .size) (drop at m) in
-      omega (arith, a, length-drop at m, es, size-positive t)
+      omega (arith, a, length-drop at m, es, size-some t)
 
   pub set-past : length m < at → Stores (setHere at t v text m) m (stored.Refused 19) m
   set-past h = too-short (cut (omega arith))

@@ -20,7 +20,7 @@ use Rattle.processor_frame.specs.Reply.{replyTo}
 pub first-none : (c : List ℕ) → length c ≡ 0 → (0 ≡ getD c 0 0) × (0 < 256)
 first-none c e = (sym (List·getD-eq-default c 0 (omega arith)), omega arith)
 
--- ---- 18
+-- ---- a well-formed command
 module _ (c : List ℕ) (n : ℕ) (e : n ≡ getD c 0 0) where
   pub no-id : n ≡ 0 → false ≡ wellFormed c
   unfolding wellFormed

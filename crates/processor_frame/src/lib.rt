@@ -1,10 +1,10 @@
 // The frame of a command and of its reply.
 ghost use mathlib.Core.Path.{_≡_};
-ghost use mathlib.Core.Bool.{true};
 ghost use mathlib.Core.List.{[]};
 ghost use Prim.Native.Nat.{_+_, _≤_, _<_};
 ghost use lib.ListN.{length, getD, take};
 ghost use Rattle.base.specs.Put.{Puts, Wrote};
+ghost use Rattle.element_text.specs.Text.{fitted};
 ghost use Rattle.processor_spec.specs.Ask.{diagnostic as Ask·diagnostic};
 ghost use Rattle.processor_spec.specs.Frame.{wellFormed, framed as Frame·framed};
 ghost use Rattle.processor_frame.specs.Reply.{replyTo};
@@ -25,7 +25,7 @@ pub fn id_len(command: &[u8]) -> usize
     wide(command[0])
 }
 
-// Is the input not empty, its first byte not 0, and its length at least that byte plus 4?
+// Is the input not empty, its first byte not 0, and its length at least that byte plus 4 (question 18)?
 pub fn well_formed(command: &[u8]) -> bool
     ensures { λ r. ⌜ r ≡ wellFormed (now (command .entry)) ⌝ }
 {
@@ -55,7 +55,7 @@ fn put_id(command: &[u8], n: usize, reply: &mut [u8]) -> usize
     7
 }
 
-// The id, CMD OR 0x40, status, TNS.
+// The frame of a reply: the requester id, the command byte (CMD) with 0x40 set, the status, the command's two transaction bytes (TNS).
 fn frame(command: &[u8], n: usize, status: u8, reply: &mut [u8]) -> usize
     requires { ⌜ n ≡ getD (now command) 0 0 ⌝ }
     requires { ⌜ n + 4 ≤ length (now command) ⌝ }
@@ -89,37 +89,26 @@ pub fn reply_to(command: &[u8], status: u8, bytes: &[u8], reply: &mut [u8]) -> u
     base::put_all(reply, a, bytes)
 }
 
-// The data of the diagnostic status: the type text padded with spaces to 11, between fixed bytes.
+// The fixed bytes in front of the type text in the diagnostic status.
+const FRONT: [u8; 5] = [0x00, 0xEE, 0x31, 0x5B, 0x30];
+
+// The type text, padded with spaces to 11.
+fn spaced(type_text: [u8; 11], type_len: usize) -> [u8; 11]
+    ensures { λ r. ⌜ r ≡ fitted 11 0x20 (take «type_len» «type_text») ⌝ }
+{
+    let mut out = [b' '; 11];
+    let n = base::least(type_len, 11);
+    base::put_all(&mut out, 0, &type_text[..n]);
+    out
+}
+
+// The data of the diagnostic status: the fixed bytes, the type text, eight zeros.
 pub fn diagnostic(type_text: [u8; 11], type_len: usize) -> [u8; 24]
     ensures { λ r. ⌜ r ≡ Ask·diagnostic (take «type_len» «type_text») ⌝ }
 {
-    let mut out = [
-        0x00,
-        0xEE,
-        0x31,
-        0x5B,
-        0x30,
-        0x20,
-        0x20,
-        0x20,
-        0x20,
-        0x20,
-        0x20,
-        0x20,
-        0x20,
-        0x20,
-        0x20,
-        0x20,
-        0,
-        0,
-        0,
-        0,
-        0,
-        0,
-        0,
-        0,
-    ];
-    let n = base::least(type_len, 11);
-    base::put_all(&mut out, 5, &type_text[..n]);
+    let text = spaced(type_text, type_len);
+    let mut out = [0u8; 24];
+    let at = base::put_all(&mut out, 0, &FRONT);
+    base::put_all(&mut out, at, &text);
     out
 }

@@ -1,22 +1,19 @@
 -- Where an access begins, and parts of memories.
 use Prim.Native.Nat.{ℕ, _+_, _-_, _*_, _≤_, _<_, _^_, min}
 use mathlib.Core.Path.{_≡_, refl, sym, ap, _∙_}
-use mathlib.Core.Bool.{Bool, true, false, not, _&&_, cond}
-use mathlib.Core.List.{List, [], _∷_}
-use mathlib.Core.Option.{Option, none, some}
+use mathlib.Core.Bool.{Bool, true, false, not}
+use mathlib.Core.List.{List, []}
+use mathlib.Core.Option.{none, some}
 use native.Mathlib.Nat.{mul-le-mul}
 use native.Mathlib.Omega.{arith}
+use mir.Syntax.{w64}
+use mir.Val.{Fits}
 use borrow.Author.Tests.{leb-true, leb-false, le-leb, lt-leb, eq-eqb, ne-eqb, not-true, not-false}
-use lib.Dec.{leb, eqb, lit≤}
+use lib.Dec.{leb}
 use lib.ListN.{length, take, drop, length-take, length-drop, drop-of-length-le}
 use lib.Seq.{take-all, take-nil}
-use Rattle.file_type.specs.declared.FileType.{FileType}
-use Rattle.file_type.specs.declared.FileType.the-variants.{O, I, S, B, T, C, R, N, F, ST, A, L, MG, PD, PLS}
-use Rattle.file_type.specs.declared.Known.{Known}
-use Rattle.file_type.specs.declared.Known.the-variants as known
-use Rattle.file_type.specs.Table.{row, ofCode}
-use Rattle.processor_spec.specs.Files.{placeIn}
-use Rattle.processor_spec.specs.State.{simulatedSize, elementSize}
+use Rattle.file_type.specs.Table.{elementSize}
+use Rattle.file_type.proofs.ElementSizes.{element-most}
 use Rattle.processor_query.specs.declared.Query.{Query}
 use Rattle.processor_table.specs.declared.Seen.{Seen}
 use Rattle.processor_locate.specs.Locate.{locateBy}
@@ -42,43 +39,26 @@ part-there s at n e q =
 pub part-length : (s bs : List ℕ) (at n : ℕ) → bs ≡ take n (drop at s) → n < 2 ^ 8 → length bs ≤ 255
 part-length s bs at n e h = rw (e, length-take) (omega arith)
 
--- ---- element sizes
-size-small : (t : FileType) → row t .size ≤ 84
-size-small O = lit≤ tt
-size-small I = lit≤ tt
-size-small S = lit≤ tt
-size-small B = lit≤ tt
-size-small T = lit≤ tt
-size-small C = lit≤ tt
-size-small R = lit≤ tt
-size-small N = lit≤ tt
-size-small F = lit≤ tt
-size-small ST = lit≤ tt
-size-small A = lit≤ tt
-size-small L = lit≤ tt
-size-small MG = lit≤ tt
-size-small PD = lit≤ tt
-size-small PLS = lit≤ tt
+-- ---- the offset is small
+module _ (a b code : ℕ) (h : a < 2 ^ 16) (e : b ≡ elementSize code) where
+  product : a * b ≤ 65535 * 84
+  product =
+      let l : a ≤ 65535 = omega arith in
+      let k : b ≤ 84 = omega (arith, element-most code) in
+      mul-le-mul {n₂ = 65535} l k
 
-module _ (t : FileType) (b : Bool) (e : b ≡ row t .simulated) where
-  pub no-size : not b ≡ true → (_≡_ {A = ℕ} 0 (simulatedSize (known.Is t))) × (0 ≤ 84)
-  no-size h = let f : row t .simulated ≡ false = sym e ∙ not-true b h in (rw f, omega arith)
+  pub product-fits : Fits w64 (a * b)
+  product-fits = record { fits = omega (arith, product) }
 
-  pub its-size : (n : ℕ) → not b ≡ false → n ≡ row t .size → (n ≡ simulatedSize (known.Is t)) × (n ≤ 84)
-  its-size n h q = let f : row t .simulated ≡ true = sym e ∙ not-false b h in (rw f q, omega (arith, size-small t))
+  module _ (n sub : ℕ) (w : n ≤ 2) (g : sub < 2 ^ 16) where
+    words : n * sub ≤ 2 * 65535
+    words = let l : sub ≤ 65535 = omega arith in mul-le-mul {n₂ = 2} w l
 
-module _ (code : ℕ) (k : Known) (e : k ≡ ofCode code) where
-  pub size-known : (t : FileType) (n : ℕ) → k ≡ known.Is t → (n ≡ simulatedSize (known.Is t)) × (n ≤ 84) → (n ≡ elementSize code) × (n ≤ 84)
-  unfolding elementSize
-  size-known t n q p = (rw (← e, q) (p .0), p .1)
+    pub offset-fits : Fits w64 (a * b + n * sub)
+    offset-fits = record { fits = omega (arith, product, words) }
 
-  pub size-unknown : k ≡ known.Unknown → (_≡_ {A = ℕ} 0 (elementSize code)) × (0 ≤ 84)
-  unfolding elementSize
-  size-unknown q = (rw (← e, q), omega arith)
-
--- the product of an element and an element size is small
-pub product : (a b : ℕ) → a < 2 ^ 16 → b ≤ 84 → a * b ≤ 65535 * 84
-product a b h k = let l : a ≤ 65535 = omega arith in mul-le-mul {n₂ = 65535} l k
+    pub end-fits : (size : ℕ) → size < 2 ^ 8 → Fits w64 (a * b + n * sub + size)
+    end-fits size k = record { fits = omega (arith, product, words) }
 
 -- ---- the place
 module _ (s : Seen) (q : Query) where

@@ -14,9 +14,11 @@ use Rattle.processor_locate.specs.declared.Located.the-variants as place
 abbrev pub foundBy : Seen → Option FileRecord
 foundBy s = cond (s .hit) (some (s .found)) none
 
+-- Files.locate, by the record that the survey found and the query
 unfoldable pub locateBy : Seen → Query → Option ℕ
 locateBy s q = placeIn (foundBy s) (q .code) (q .element) (q .sub) (q .size)
 
+-- the place, or none
 abbrev pub placeOf : Located → Option ℕ
 placeOf place.No = none
 placeOf (place.At at) = some at

@@ -35,7 +35,7 @@ use Rattle.processor_soundness.proofs.Surveyed.{sound-is}
 use Rattle.processor_table.specs.declared.Seen.{Seen}
 use Rattle.processor_table.specs.Survey.{there, orNone, toldOf, surveyOf}
 use Rattle.processor_refinement.specs.CallBySurvey.{firstNo, questionOf, questioned, respondOf, showOf}
-use Rattle.processor_refinement.specs.StepsBySurvey.{tells, statusStep, popStep, readAt, readStep, valuesOf, writeAt, writeStep, obeyStep, sizeAsked, directoryLength, sizeBytes, directoryStep}
+use Rattle.processor_refinement.specs.StepsBySurvey.{tells, statusStep, popStep, readAt, readStep, valuesOf, writeAt, writeStep, obeyStep, sizeAsked, directoryLength, sizeBytes, partStep, directoryStep}
 use Rattle.processor_locate.specs.Locate.{locateBy}
 
 found-is : (o : Option FileRecord) → cond (there o) (some (orNone o)) none ≡ o
@@ -151,7 +151,7 @@ module _ (slc : Slc) (t : List FileRecord) (m log c : List ℕ) (fill : Query �
           ∙ ap (λ (l : List ℕ). take (h .size) (drop (2 * h .element) l)) (filled (directoryQuery (sys0 text) h) refl)
 
       directory-same : does (directoryQuery (sys0 text) h) ≡ perform (heldState slc t m log) c (askDirectory rs (sys0 text) h)
-      unfolding directoryStep askDirectory sizeAsked sizeBytes directorySize perform bad
+      unfolding directoryStep partStep askDirectory sizeAsked sizeBytes directorySize perform bad
       directory-same =
           rw (length-same (directoryQuery (sys0 text) h) refl)
           (under (eqb (h .code) (sys0 text .«file_type»)) _ _ _ _

@@ -47,7 +47,7 @@ told-there slc c bs reply reply′ status r p b = record { is = go (replyTo c st
         let v : (r ≡ 0) × (reply′ ≡ reply) = p .full (omega arith) in
         record { done = ap (λ (z : ℕ). record { slc = slc; answered = answered.Reply z }) (v .0); left = v .1 ∙ sym (put-none reply 0) }
 
--- where 17 and 18 are answered with yes, the reply is there
+-- the reply is there where the command is well-formed and the reply memory has room for any
 pub told : {slc : Slc} {c bs reply reply′ : List ℕ} {status : ℕ} {r : Done} → Told c status bs slc reply r reply′ → wellFormed c ≡ true → length bs ≤ 255 → 514 ≤ length reply
     → Answers (tells c status bs) slc [] reply r reply′
 unfolding tellsIn roomed replyTo

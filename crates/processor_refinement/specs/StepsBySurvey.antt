@@ -1,4 +1,5 @@
--- What a command does, as the query and the survey tell it (document 01, "What the processor does").
+-- What a well-formed command does, by the query, the survey and the lent memories. Each definition names the one of processor_spec that it
+-- refines, and what tells it; `Refines.antt` shows that a call does the same by either.
 use Prim.Native.Nat.{ℕ, _+_, _*_, _≤_}
 use mathlib.Core.Path.{_≡_}
 use mathlib.Core.Bool.{Bool, _&&_, cond}
@@ -24,15 +25,15 @@ use Rattle.processor_query.specs.declared.Wants.the-variants as wants
 use Rattle.processor_locate.specs.Locate.{locateBy}
 use Rattle.processor_table.specs.declared.Seen.{Seen}
 
--- a reply that changes nothing
+-- Step.perform of a `tell` or a `fail`: a reply that changes nothing
 abbrev pub tells : List ℕ → ℕ → List ℕ → Step
 tells c status bs = record { answer = replied (framed c status bs); effect = keeps }
 
--- "bad"
+-- Step.perform of Ask.bad
 abbrev pub tellsBad : List ℕ → Step
 tellsBad c = tells c 0xF0 (0x06 ∷ [])
 
--- what a call answers and leaves in the reply memory
+-- Pccc.leftBy without the data memory: what a call answers and leaves in the reply memory
 pub record Answers (x : Step) (slc : Slc) (log reply : List ℕ) (r : Done) (reply′ : List ℕ) : Type 0 where
   pub done : r ≡ record { slc = slcLeft (x .effect) slc log; answered = answeredOf (x .answer) }
   pub left : reply′ ≡ replyLeft (x .answer) reply
@@ -50,31 +51,37 @@ pub record Told (c : List ℕ) (status : ℕ) (bs : List ℕ) (slc : Slc) (reply
   pub is : Answers (tellsIn reply c status bs) slc [] reply r reply′
   pub small : length (replyTo c status bs) ≤ 259 + length bs
 
+-- Step.popped, by the plain data and the datalog's memory
 unfoldable pub popStep : Slc → List ℕ → List ℕ → Step
 popStep slc log c = popped c (entries (slc .«log_left») (drop (slc .«log_at») log))
 
+-- Step.perform of a read, by the place: bad where there is none
 abbrev pub readAt : Option ℕ → ℕ → List ℕ → List ℕ → Step
 readAt none size memory c = tellsBad c
 readAt (some at) size memory c = tells c 0 (take size (drop at memory))
 
+-- Ask.askFile of a read, performed: the survey and the query tell the place
 unfoldable pub readStep : Seen → Query → List ℕ → List ℕ → Step
 readStep s q memory c = readAt (locateBy s q) (q .size) memory c
 
--- the values of a write: bytes of the parameters
+-- Params.valueBytes, by the query, which tells their place in the parameters
 unfoldable pub valuesOf : Query → List ℕ → List ℕ
 valuesOf q c = take (q .size) (drop (q .place) (drop 1 (function c)))
 
+-- Step.perform of a write, by the place: bad where there is none
 abbrev pub writeAt : Option ℕ → ℕ → List ℕ → List ℕ → List ℕ → Step
 writeAt none mask values memory c = tellsBad c
 writeAt (some at) mask values memory c = record { answer = replied (framed c 0 []); effect = lays at (maskedAt memory at mask values) }
 
+-- Ask.askFile of a write, performed: the survey and the query tell the place, the query the mask and the values
 unfoldable pub writeStep : Seen → Query → List ℕ → List ℕ → Step
 writeStep s q memory c = writeAt (locateBy s q) (q .mask) (valuesOf q c) memory c
 
+-- Step.perform of Ask.diagnostic, by the type text in its array
 unfoldable pub statusStep : Slc → List ℕ → Step
 statusStep slc c = tells c 0 (diagnostic (take (slc .«type_len») (slc .«type_text»)))
 
--- what is done, by what is wanted
+-- Step.obey, by what the query wants; a command for the directory goes another way (`directoryStep`)
 unfoldable pub obeyStep : Wants → Slc → Seen → Query → List ℕ → List ℕ → List ℕ → Step
 obeyStep wants.Illegal slc s q memory log c = tells c 0x10 []
 obeyStep wants.Bad slc s q memory log c = tellsBad c
@@ -84,25 +91,28 @@ obeyStep wants.Directory slc s q memory log c = tellsBad c
 obeyStep wants.Read slc s q memory log c = readStep s q memory c
 obeyStep wants.Write slc s q memory log c = writeStep s q memory c
 
--- ---- the directory; `d` begins with it
--- its length: the first row's place, and the rows from 0 to the last file
+-- ---- the directory
+-- the length of Directory.directory, by the layout and the survey's last number
 unfoldable pub directoryLength : Seen → Layout → ℕ
 directoryLength s l = l .first + s .next * l .row
 
--- "Size element with size 2 to 8"
+-- the test of Ask.askDirectory for the size element, by the query and its layout
 unfoldable pub sizeAsked : Query → Layout → Bool
 sizeAsked q l = eqb (q .element) (l .«size_element») && (leb 2 (q .size) && leb (q .size) 8)
 
--- "as a word, zero-padded"
+-- Directory.directorySize, by the number that it tells
 unfoldable pub sizeBytes : ℕ → ℕ → List ℕ
 sizeBytes n size = fitted size 0 (lowFirst 2 n)
 
--- "A wrong type code is bad. Size element with size 2 to 8 gives the directory's length ..; otherwise size bytes from 2 × element on, bad if
--- 2 × element + size is above the length."
+-- bytes of the directory as Ask.askDirectory asks for them, performed, by the query, its length `n` and an array `d` that begins with it
+unfoldable pub partStep : Query → ℕ → List ℕ → List ℕ → Step
+partStep q n d c = cond (leb (2 * q .element + q .size) n) (tells c 0 (take (q .size) (drop (2 * q .element) d))) (tellsBad c)
+
+-- Ask.askDirectory, performed, by the query, the survey and an array `d` that begins with Directory.directory
 unfoldable pub directoryStep : Seen → Query → List ℕ → List ℕ → Step
 directoryStep s q d c =
     cond (eqb (q .code) (q .layout .code))
     (cond (sizeAsked q (q .layout))
     (tells c 0 (sizeBytes (directoryLength s (q .layout) + q .layout .constant) (q .size)))
-    (cond (leb (2 * q .element + q .size) (directoryLength s (q .layout))) (tells c 0 (take (q .size) (drop (2 * q .element) d))) (tellsBad c)))
+    (partStep q (directoryLength s (q .layout)) d c))
     (tellsBad c)

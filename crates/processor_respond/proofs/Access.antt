@@ -23,6 +23,16 @@ use Rattle.processor_refinement.specs.StepsBySurvey.{Answers, Told, tells, tell
 use Rattle.processor_locate.specs.Locate.{locateBy, placeOf}
 use Rattle.processor_refinement.proofs.Replying.{answers-left, told}
 
+-- the values stand in the parameters
+pub values-there : (q : Query) (c : List ℕ) (n : ℕ) (ps vs : List ℕ) → n ≡ getD c 0 0 → ps ≡ take (length c) (drop (n + 5) c) → vs ≡ take (q .size) (drop (q .place) ps) → vs ≡ valuesOf q c
+unfolding valuesOf function body
+values-there q c n ps vs en ep ev =
+    let l : length (drop (n + 5) c) ≤ length c = simp length-drop (omega arith) in
+    let x : drop 1 (drop 4 (drop (getD c 0 0) c)) ≡ drop (getD c 0 0 + 4 + 1) c = ap (drop 1) (drop-drop 4 (getD c 0 0) c) ∙ drop-drop 1 (getD c 0 0 + 4) c in
+    let k : n + 5 ≡ getD c 0 0 + 4 + 1 = omega arith in
+    let y : ps ≡ drop 1 (drop 4 (drop (getD c 0 0) c)) = ep ∙ take-all (length c) (drop (n + 5) c) l ∙ ap (λ (j : ℕ). drop j c) k ∙ sym x in
+    ev ∙ ap (λ (z : List ℕ). take (q .size) (drop (q .place) z)) y
+
 module _ (slc : Slc) (c reply reply′ : List ℕ) (r : Done) where
   pub diagnosed : (d : List ℕ) → d ≡ diagnostic (take (slc .«type_len») (slc .«type_text»)) → length d ≡ 24 → Told c 0 d slc reply r reply′ → wellFormed c ≡ true → 514 ≤ length reply
       → Answers (statusStep slc c) slc [] reply r reply′
@@ -44,21 +54,10 @@ module _ (slc : Slc) (c reply reply′ : List ℕ) (r : Done) where
     unfolding writeStep memoryLeft
     stored-bad f a = let o : locateBy s q ≡ none = sym e ∙ ap placeOf f in rw o (answers-left m m a refl)
 
-    -- the values stand in the parameters
-    values-there : (n : ℕ) (ps vs : List ℕ) → n ≡ getD c 0 0 → ps ≡ take (length c) (drop (n + 5) c) → vs ≡ take (q .size) (drop (q .place) ps) → vs ≡ valuesOf q c
-    unfolding valuesOf function body
-    values-there n ps vs en ep ev =
-        let l : length (drop (n + 5) c) ≤ length c = simp length-drop (omega arith) in
-        let x : drop 1 (drop 4 (drop (getD c 0 0) c)) ≡ drop (getD c 0 0 + 4 + 1) c = ap (drop 1) (drop-drop 4 (getD c 0 0) c) ∙ drop-drop 1 (getD c 0 0 + 4) c in
-        let k : n + 5 ≡ getD c 0 0 + 4 + 1 = omega arith in
-        let y : ps ≡ drop 1 (drop 4 (drop (getD c 0 0) c)) = ep ∙ take-all (length c) (drop (n + 5) c) l ∙ ap (λ (j : ℕ). drop j c) k ∙ sym x in
-        ev ∙ ap (λ (z : List ℕ). take (q .size) (drop (q .place) z)) y
-
-    pub stored : (at n : ℕ) (ps vs m′ : List ℕ) → p ≡ place.At at → n ≡ getD c 0 0 → ps ≡ take (length c) (drop (n + 5) c) → vs ≡ take (q .size) (drop (q .place) ps)
-        → m′ ≡ written m at (q .mask) vs → Told c 0 [] slc reply r reply′ → wellFormed c ≡ true → 514 ≤ length reply → left r m′ reply′ ≡ leftBy (writeStep s q m c) slc m [] reply
+    pub stored : (at : ℕ) (vs m′ : List ℕ) → p ≡ place.At at → vs ≡ valuesOf q c → m′ ≡ written m at (q .mask) vs → Answers (tells c 0 []) slc [] reply r reply′
+        → left r m′ reply′ ≡ leftBy (writeStep s q m c) slc m [] reply
     unfolding writeStep memoryLeft written slcLeft
-    stored at n ps vs m′ f en ep ev em t w k =
-        let a : Answers (tells c 0 []) slc [] reply r reply′ = told t w (omega arith) k in
+    stored at vs m′ f ev em a =
         let o : locateBy s q ≡ some at = sym e ∙ ap placeOf f in
-        let v : m′ ≡ put m at (maskedAt m at (q .mask) (valuesOf q c)) = em ∙ ap (λ (z : List ℕ). put m at (maskedAt m at (q .mask) z)) (values-there n ps vs en ep ev) in
+        let v : m′ ≡ put m at (maskedAt m at (q .mask) (valuesOf q c)) = em ∙ ap (λ (z : List ℕ). put m at (maskedAt m at (q .mask) z)) ev in
         rw o (λ i. record { done = a .done i; memory = v i; reply = a .left i })

@@ -52,10 +52,18 @@ module _ (slc : Slc) (log : List ℕ) (n : ℕ) (e : n ≡ number (take 2 (drop 
   unfolding entryRoom
   room = ap (λ (k : ℕ). 2 + k) (sym e)
 
-  pub entry-fits : slc .«log_at» + (2 + n) ≤ length log
+  entry-fits : slc .«log_at» + (2 + n) ≤ length log
   entry-fits =
       let l : length (drop (slc .«log_at») log) ≡ length log - slc .«log_at» = length-drop (slc .«log_at») log in
       omega (arith, fits .0, room, l)
+
+  -- the places are numbers that a `usize` holds, as the datalog's memory has so many bytes at most
+  module _ (h : length log < 2 ^ 64) where
+    pub begin-fits : slc .«log_at» + 2 < 2 ^ 64
+    begin-fits = omega (arith, entry-fits)
+
+    pub end-fits : slc .«log_at» + (2 + n) < 2 ^ 64
+    end-fits = omega (arith, entry-fits)
 
   pub entry-small : n < 2 ^ 8
   entry-small = omega (arith, fits .1, room)

@@ -5,6 +5,7 @@ use processor_query::Query;
 use processor_query::Wants;
 use processor_spec::Answered;
 use processor_spec::Done;
+use processor_spec::Refusal;
 use processor_spec::Slc;
 use processor_table::Seen;
 ghost use mathlib.Core.Path.{_≡_};
@@ -15,7 +16,7 @@ ghost use lib.ListN.{length};
 ghost use Rattle.processor_spec.specs.Frame.{wellFormed};
 ghost use Rattle.processor_spec.specs.Pccc.{left, leftBy};
 ghost use Rattle.processor_soundness.specs.Sound.{goodLogBy};
-ghost use Rattle.processor_refinement.specs.StepsBySurvey.{Answers, statusStep, popStep, readStep, writeStep, obeyStep};
+ghost use Rattle.processor_refinement.specs.StepsBySurvey.{Answers, statusStep, popStep, readStep, valuesOf, writeStep, obeyStep};
 ghost use Rattle.processor_refinement.specs.CallBySurvey.{respondOf};
 
 // The diagnostic status.
@@ -76,6 +77,15 @@ fn fetch(slc: Slc, s: Seen, q: Query, memory: &[u8], command: &[u8], reply: &mut
     )
 }
 
+// The values of a write: bytes of its parameters.
+fn values(q: Query, command: &[u8]) -> &[u8]
+    ensures { λ r. ⌜ now r ≡ valuesOf q (now (command .entry)) ⌝ }
+{
+    let n = processor_frame::id_len(command);
+    let parameters = processor_locate::part(command, n + 5, command.len());
+    processor_locate::part(parameters, q.place, q.size as usize)
+}
+
 // A masked write to a file.
 fn store(slc: Slc, s: Seen, q: Query, memory: &mut [u8], command: &[u8], reply: &mut [u8]) -> Done
     requires { ⌜ wellFormed (now command) ≡ true ⌝ }
@@ -85,17 +95,7 @@ fn store(slc: Slc, s: Seen, q: Query, memory: &mut [u8], command: &[u8], reply: 
     let Located::At(at) = processor_locate::locate(s, q) else {
         return processor_refinement::bad(slc, command, reply);
     };
-    let n = processor_frame::id_len(command);
-    processor_masked_write::masked_write(
-        memory,
-        at,
-        q.mask,
-        processor_locate::part(
-            processor_locate::part(command, n + 5, command.len()),
-            q.place,
-            q.size as usize,
-        ),
-    );
+    processor_masked_write::masked_write(memory, at, q.mask, values(q, command));
     processor_refinement::answer(slc, command, 0, &command[..0], reply)
 }
 
@@ -138,12 +138,11 @@ pub fn respond(
 ) -> Done
     ensures { λ r. ⌜ left r (now (memory .exit)) (now (reply .exit)) ≡ respondOf slc s q (now (memory .entry)) (now (log .entry)) (now (command .entry)) (now (reply .entry)) ⌝ }
 {
-    let refusal = processor_refinement::question(slc, s, memory.len(), log, reply.len(), command);
-    if refusal != 0 {
-        return Done {
+    match processor_refinement::question(slc, s, memory.len(), log, reply.len(), command) {
+        Refusal::Number(n) => Done {
             slc,
-            answered: Answered::Refused(refusal),
-        };
+            answered: Answered::Refused(n),
+        },
+        Refusal::None => obey(slc, s, q, memory, log, command, reply),
     }
-    obey(slc, s, q, memory, log, command, reply)
 }

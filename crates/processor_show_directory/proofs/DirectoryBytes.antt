@@ -1,7 +1,7 @@
 -- The directory: its length, its size as a word, and its bytes.
 use Prim.Native.Nat.{ℕ, zero, suc, _+_, _-_, _*_, _/_, _%_, _≤_, _<_, _^_}
 use mathlib.Core.Path.{_≡_, refl, sym, ap, subst, _∙_}
-use mathlib.Core.Bool.{Bool, true, false, _&&_, cond}
+use mathlib.Core.Bool.{Bool, true, false, _&&_}
 use mathlib.Core.List.{List, [], _∷_, _++_}
 use native.Mathlib.Nat.{mul-le-mul}
 use native.Mathlib.Omega.{arith}
@@ -13,16 +13,21 @@ use Rattle.base.specs.Numbers.{lowFirst}
 use Rattle.element_text.specs.Text.{fitted}
 use Rattle.processor_spec.specs.declared.Done.{Done}
 use Rattle.processor_spec.specs.declared.Slc.{Slc}
-use Rattle.processor_spec.specs.Step.{Step}
 use Rattle.processor_spec.proofs.Tests.{and-l, and-r}
 use Rattle.processor_query.specs.declared.Layout.{Layout}
 use Rattle.processor_query.specs.declared.Query.{Query}
 use Rattle.processor_table.specs.declared.Seen.{Seen}
-use Rattle.processor_refinement.specs.StepsBySurvey.{Answers, tells, tellsBad, sizeAsked, directoryLength, sizeBytes, directoryStep}
+use Rattle.processor_refinement.specs.StepsBySurvey.{Answers, tells, tellsBad, sizeAsked, directoryLength, sizeBytes, partStep, directoryStep}
 
 -- ---- the length
-pub rows-small : (a b : ℕ) → a < 2 ^ 16 → b < 2 ^ 8 → a * b ≤ 65535 * 255
+rows-small : (a b : ℕ) → a < 2 ^ 16 → b < 2 ^ 8 → a * b ≤ 65535 * 255
 rows-small a b h k = let l : a ≤ 65535 = omega arith in let j : b ≤ 255 = omega arith in mul-le-mul {n₂ = 65535} l j
+
+pub rows-fit : (a b : ℕ) → a < 2 ^ 16 → b < 2 ^ 8 → a * b < 2 ^ 64
+rows-fit a b h k = omega (arith, rows-small a b h k)
+
+pub length-fits : (f a b : ℕ) → f < 2 ^ 8 → a < 2 ^ 16 → b < 2 ^ 8 → f + a * b < 2 ^ 64
+length-fits f a b g h k = omega (arith, rows-small a b h k)
 
 pub length-is : (s : Seen) (l : Layout) → l .first < 2 ^ 8 → s .next < 2 ^ 16 → l .row < 2 ^ 8
     → (l .first + s .next * l .row ≡ directoryLength s l) × (l .first + s .next * l .row ≤ 16711680)
@@ -44,11 +49,16 @@ module _ (q : Query) (l : Layout) where
     unfolding sizeAsked
     size-test h = rw (eq-eqb (q .element) (l .«size_element») e, le-leb 2 (q .size) h)
 
-  pub size-range : (ok : Bool) → ok ≡ sizeAsked q l → ok ≡ true → (2 ≤ q .size) × (q .size ≤ 8)
-  unfolding sizeAsked
-  size-range ok f t =
-      let b : (leb 2 (q .size) && leb (q .size) 8) ≡ true = and-r (eqb (q .element) (l .«size_element»)) _ (sym f ∙ t) in
-      (leb-true 2 (q .size) (and-l _ _ b), leb-true (q .size) 8 (and-r (leb 2 (q .size)) _ b))
+  module _ (ok : Bool) (t : ok ≡ true) (e : ok ≡ sizeAsked q l) where
+    in-range : (leb 2 (q .size) && leb (q .size) 8) ≡ true
+    unfolding sizeAsked
+    in-range = and-r (eqb (q .element) (l .«size_element»)) _ (sym e ∙ t)
+
+    pub size-low : 2 ≤ q .size
+    size-low = leb-true 2 (q .size) (and-l _ _ in-range)
+
+    pub size-high : q .size ≤ 8
+    size-high = leb-true (q .size) 8 (and-r (leb 2 (q .size)) _ in-range)
 
 take-same : (j n : ℕ) → j ≤ n → take {A = ℕ} j (replicate n 0) ≡ replicate j 0
 take-same zero n h = refl
@@ -79,23 +89,26 @@ module _ (n size : ℕ) (h : (2 ≤ size) × (size ≤ 8)) where
   size-told slc c reply reply′ r a = subst (λ (x : List ℕ). Answers (tells c 0 x) slc [] reply r reply′) eight-is a
 
 -- ---- what a command for the directory does
+module _ (slc : Slc) (q : Query) (n : ℕ) (d c reply reply′ : List ℕ) (r : Done) where
+  pub part-past : n < 2 * q .element + q .size → Answers (tellsBad c) slc [] reply r reply′ → Answers (partStep q n d c) slc [] reply r reply′
+  unfolding partStep
+  part-past l a = rw (lt-leb (2 * q .element + q .size) n l) a
+
+  pub part-there : (bs : List ℕ) → 2 * q .element + q .size ≤ n → bs ≡ take (q .size) (drop (2 * q .element) d) → Answers (tells c 0 bs) slc [] reply r reply′
+      → Answers (partStep q n d c) slc [] reply r reply′
+  unfolding partStep
+  part-there bs l g a = rw (le-leb (2 * q .element + q .size) n l, ← g) a
+
 module _ (slc : Slc) (s : Seen) (q : Query) (d c reply reply′ : List ℕ) (r : Done) where
   pub list-other : (q .code ≡ q .layout .code → ⊥) → Answers (tellsBad c) slc [] reply r reply′ → Answers (directoryStep s q d c) slc [] reply r reply′
   unfolding directoryStep
   list-other ne a = rw (ne-eqb (q .code) (q .layout .code) ne) a
 
   module _ (e : q .code ≡ q .layout .code) (n : ℕ) (en : n ≡ directoryLength s (q .layout)) (ok : Bool) (eo : ok ≡ sizeAsked q (q .layout)) where
-    by : (x : Step) → (cond ok (tells c 0 (sizeBytes (n + q .layout .constant) (q .size))) (cond (leb (2 * q .element + q .size) n) (tells c 0 (take (q .size) (drop (2 * q .element) d))) (tellsBad c))) ≡ x
-        → Answers x slc [] reply r reply′ → Answers (directoryStep s q d c) slc [] reply r reply′
-    unfolding directoryStep
-    by x f a = rw (eq-eqb (q .code) (q .layout .code) e, ← eo, ← en) (subst (λ (y : Step). Answers y slc [] reply r reply′) (sym f) a)
-
     pub list-size : ok ≡ true → Answers (tells c 0 (sizeBytes (n + q .layout .constant) (q .size))) slc [] reply r reply′ → Answers (directoryStep s q d c) slc [] reply r reply′
-    list-size t a = by (tells c 0 (sizeBytes (n + q .layout .constant) (q .size))) (rw t) a
+    unfolding directoryStep
+    list-size t a = rw (eq-eqb (q .code) (q .layout .code) e, ← eo, ← en, t) a
 
-    pub list-past : ok ≡ false → n < 2 * q .element + q .size → Answers (tellsBad c) slc [] reply r reply′ → Answers (directoryStep s q d c) slc [] reply r reply′
-    list-past t l a = by (tellsBad c) (rw (t, lt-leb (2 * q .element + q .size) n l)) a
-
-    pub list-bytes : (bs : List ℕ) → ok ≡ false → 2 * q .element + q .size ≤ n → bs ≡ take (q .size) (drop (2 * q .element) d) → Answers (tells c 0 bs) slc [] reply r reply′
-        → Answers (directoryStep s q d c) slc [] reply r reply′
-    list-bytes bs t l g a = by (tells c 0 bs) (rw (t, le-leb (2 * q .element + q .size) n l, ← g)) a
+    pub list-bytes : ok ≡ false → Answers (partStep q n d c) slc [] reply r reply′ → Answers (directoryStep s q d c) slc [] reply r reply′
+    unfolding directoryStep
+    list-bytes t a = rw (eq-eqb (q .code) (q .layout .code) e, ← eo, ← en, t) a

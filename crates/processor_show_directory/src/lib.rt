@@ -3,6 +3,7 @@ use processor_query::Layout;
 use processor_query::Query;
 use processor_spec::Answered;
 use processor_spec::Done;
+use processor_spec::Refusal;
 use processor_spec::Slc;
 use processor_table::Seen;
 ghost use mathlib.Core.Path.{_≡_};
@@ -12,7 +13,7 @@ ghost use Prim.Native.Nat.{_≤_};
 ghost use lib.ListN.{length};
 ghost use Rattle.processor_spec.specs.Frame.{wellFormed};
 ghost use Rattle.processor_spec.specs.Pccc.{left};
-ghost use Rattle.processor_refinement.specs.StepsBySurvey.{Answers, tells, sizeAsked, directoryLength, sizeBytes, directoryStep};
+ghost use Rattle.processor_refinement.specs.StepsBySurvey.{Answers, tells, sizeAsked, directoryLength, sizeBytes, partStep, directoryStep};
 ghost use Rattle.processor_refinement.specs.CallBySurvey.{showOf};
 
 // The directory's length.
@@ -47,6 +48,25 @@ fn tell_size(slc: Slc, n: usize, size: u8, command: &[u8], reply: &mut [u8]) -> 
     processor_refinement::answer(slc, command, 0, &word[..k], reply)
 }
 
+// Bytes of the directory, which has `n`, and with which `d` begins.
+fn list_part(slc: Slc, q: Query, n: usize, d: &[u8], command: &[u8], reply: &mut [u8]) -> Done
+    requires { ⌜ wellFormed (now command) ≡ true ⌝ }
+    requires { ⌜ 514 ≤ length (now reply) ⌝ }
+    ensures { λ r. ⌜ Answers (partStep q n (now (d .entry)) (now (command .entry))) slc [] (now (reply .entry)) r (now (reply .exit)) ⌝ }
+{
+    let from = 2 * (q.element as usize);
+    if n < from + (q.size as usize) {
+        return processor_refinement::bad(slc, command, reply);
+    }
+    processor_refinement::answer(
+        slc,
+        command,
+        0,
+        processor_locate::part(d, from, q.size as usize),
+        reply,
+    )
+}
+
 // What a command for the directory does; `d` begins with the directory.
 fn list(slc: Slc, s: Seen, q: Query, d: &[u8], command: &[u8], reply: &mut [u8]) -> Done
     requires { ⌜ wellFormed (now command) ≡ true ⌝ }
@@ -61,17 +81,7 @@ fn list(slc: Slc, s: Seen, q: Query, d: &[u8], command: &[u8], reply: &mut [u8])
     if size_asked(q, l) {
         return tell_size(slc, n + (l.constant as usize), q.size, command, reply);
     }
-    let from = 2 * (q.element as usize);
-    if n < from + (q.size as usize) {
-        return processor_refinement::bad(slc, command, reply);
-    }
-    processor_refinement::answer(
-        slc,
-        command,
-        0,
-        processor_locate::part(d, from, q.size as usize),
-        reply,
-    )
+    list_part(slc, q, n, d, command, reply)
 }
 
 // The call, where the directory is asked for.
@@ -87,12 +97,11 @@ pub fn show(
 ) -> Done
     ensures { λ r. ⌜ left r (now (memory .exit)) (now (reply .exit)) ≡ showOf slc s q d (now (memory .entry)) (now (log .entry)) (now (command .entry)) (now (reply .entry)) ⌝ }
 {
-    let refusal = processor_refinement::question(slc, s, memory.len(), log, reply.len(), command);
-    if refusal != 0 {
-        return Done {
+    match processor_refinement::question(slc, s, memory.len(), log, reply.len(), command) {
+        Refusal::Number(n) => Done {
             slc,
-            answered: Answered::Refused(refusal),
-        };
+            answered: Answered::Refused(n),
+        },
+        Refusal::None => list(slc, s, q, &d, command, reply),
     }
-    list(slc, s, q, &d, command, reply)
 }

@@ -1,4 +1,4 @@
--- 16, test by test; and what the survey of a table gives is the state's.
+-- Soundness, test by test; and what the survey of a table gives is the state's.
 use Prim.Native.Nat.{ℕ, _≤_, _<_}
 use mathlib.Core.Path.{_≡_, refl, sym, _∙_}
 use mathlib.Core.Bool.{Bool, true, false, not, _&&_, cond}

@@ -1,10 +1,10 @@
 -- The type text: its largest byte tells whether each is below 128.
 use Prim.Native.Nat.{ℕ, zero, suc, _+_, _≤_, _<_, max}
-use mathlib.Core.Path.{_≡_, refl, sym, ap, _∙_}
-use mathlib.Core.Bool.{Bool, true, false, _&&_, false≢true}
+use mathlib.Core.Path.{_≡_, refl, sym, _∙_}
+use mathlib.Core.Bool.{Bool, true, false, _&&_}
 use mathlib.Core.List.{List, [], _∷_, map}
 use native.Mathlib.Omega.{arith}
-use borrow.Author.Tests.{leb-true, ltb-true, ltb-false, lt-ltb, le-ltb, le-leb, lt-leb}
+use borrow.Author.Tests.{ltb-true, lt-ltb, le-ltb, le-leb, lt-leb}
 use lib.Dec.{leb, ltb}
 use lib.ListN.{length, getD, take, drop, length-take, length-map, drop-of-length-le}
 use lib.Seq.{length-take-le}
@@ -63,7 +63,7 @@ module _ (s : List ℕ) (i : ℕ) where
   unfolding small every
   small-last h e = let x : small (drop i s) ≡ true = rw (drop-of-length-le s h) in sym x ∙ e
 
--- ---- 13
+-- ---- at most 11 bytes, each below 128
 module _ (text : List ℕ) (len : ℕ) where
   pub text-long : 11 < len → false ≡ (leb len 11 && goodText (take len text))
   text-long h = rw (lt-leb len 11 h)

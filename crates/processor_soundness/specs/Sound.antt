@@ -1,4 +1,4 @@
--- 16, by what the survey of the file table tells.
+-- When a state is sound (question 16), by what the survey of the file table tells.
 use Prim.Native.Nat.{ℕ}
 use mathlib.Core.Bool.{Bool, _&&_}
 use mathlib.Core.List.{List}
@@ -9,11 +9,12 @@ use Rattle.processor_spec.specs.Plain.{entries, holds}
 use Rattle.processor_spec.specs.State.{goodText, goodLog}
 use Rattle.processor_table.specs.declared.Seen.{Seen}
 
--- 15, of the entries that are left in the datalog's memory
+-- the datalog's memory holds the entries that are left; "Has the datalog at most 64 entries of at most 255 bytes?" (question 15)
 unfoldable pub goodLogBy : Slc → List ℕ → Bool
 goodLogBy slc log = holds (slc .«log_left») (drop (slc .«log_at») log) && goodLog (entries (slc .«log_left») (drop (slc .«log_at») log))
 
--- 16: "A state is sound when": the table as the survey found it, "and fit; and 13 to 15 hold"; the data memory by its length
+-- State.sound, by the survey, the length of the data memory and the plain data: "A state is sound when it has a file record; .. lie end to end
+-- from data byte 0", as the survey tells, "and fit; and 13 to 15 hold", of which the survey tells the total
 unfoldable pub soundBy : Slc → Seen → ℕ → List ℕ → Bool
 soundBy slc s memory log =
     s .sound && leb (s .total) memory

@@ -1,12 +1,13 @@
 -- The tests of the type text and of the datalog, as they are made.
-use Prim.Native.Nat.{ℕ, zero, suc, max}
-use mathlib.Core.Bool.{Bool, true, _&&_, cond}
+use Prim.Native.Nat.{ℕ, max}
+use mathlib.Core.Bool.{Bool, _&&_, cond}
 use mathlib.Core.List.{List, [], _∷_}
-use lib.Dec.{leb, ltb, eqb}
-use lib.ListN.{length, drop}
+use lib.Dec.{leb, ltb}
+use lib.ListN.{length}
 use Rattle.processor_spec.specs.State.{every}
 use Rattle.processor_spec.specs.Plain.{entryRoom}
 
+-- the largest of a number and some bytes
 unfoldable pub largestFrom : ℕ → List ℕ → ℕ
 largestFrom n [] = n
 largestFrom n (b ∷ s) = largestFrom (max n b) s
@@ -14,7 +15,7 @@ largestFrom n (b ∷ s) = largestFrom (max n b) s
 unfoldable pub largest : List ℕ → ℕ
 largest s = largestFrom 0 s
 
--- 13: "each below 128"
+-- "each below 128", of the type text (question 13)
 unfoldable pub small : List ℕ → Bool
 small s = every (λ (b : ℕ). ltb b 128) s
 

@@ -1,4 +1,4 @@
-// Question 16: the file table as it was surveyed, the type text (13) and the datalog (15).
+// Is a processor's state sound (question 16)? The file records as they were surveyed, the data memory, the type text and the datalog.
 use processor_spec::Slc;
 use processor_table::Seen;
 ghost use mathlib.Core.Path.{_≡_};
@@ -20,6 +20,7 @@ fn larger(a: u8, b: u8) -> u8
     a
 }
 
+// The largest byte of a text.
 fn largest(text: [u8; 11]) -> u8
     ensures { λ r. ⌜ r ≡ Tests·largest text ⌝ }
 {
@@ -46,7 +47,7 @@ fn all_small(text: &[u8]) -> bool
     true
 }
 
-// 13, of the first bytes of a text. Where all eleven are below 128, as they mostly are, it isn't looked at byte by byte.
+// Has the type text at most 11 bytes, each below 128 (question 13)? Mostly its array has no others, which the largest tells with no branch a byte.
 pub fn good_text(text: [u8; 11], len: usize) -> bool
     ensures { λ r. ⌜ r ≡ (leb len 11 && goodText (take len text)) ⌝ }
 {
@@ -77,7 +78,7 @@ fn entry_room(log: &[u8], at: usize) -> usize
     room
 }
 
-// 15, of so many entries from a place on: does the memory hold them, and are they at most 64 of at most 255 bytes?
+// Does the datalog's memory hold so many entries from a place on, at most 64 of at most 255 bytes (question 15)?
 pub fn good_log(log: &[u8], at: usize, left: usize) -> bool
     ensures { λ r. ⌜ r ≡ (holds left (drop at (now (log .entry))) && goodLog (entries left (drop at (now (log .entry))))) ⌝ }
 {
@@ -97,7 +98,7 @@ pub fn good_log(log: &[u8], at: usize, left: usize) -> bool
     true
 }
 
-// 16: the table as it was surveyed, its files in a data memory of this length, the type text, and the datalog.
+// Are the records sound, as the survey tells, does a data memory of this length hold their files, and are type text and datalog good?
 pub fn sound(slc: Slc, s: Seen, memory: usize, log: &[u8]) -> bool
     ensures { λ r. ⌜ r ≡ soundBy slc s memory (now (log .entry)) ⌝ }
 {

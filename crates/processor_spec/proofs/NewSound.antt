@@ -15,12 +15,13 @@ use Rattle.base.specs.Put.{put}
 use Rattle.base.proofs.Put.{put-length}
 use Rattle.parser_spec.proofs.Held.{no-some}
 use Rattle.element_text.specs.Text.{fitted}
+use Rattle.file_type.specs.Table.{elementSize}
 use Rattle.processor_spec.specs.declared.FileRecord.{FileRecord}
 use Rattle.processor_spec.specs.declared.Made.the-variants as made
 use Rattle.processor_spec.specs.Build.{Wanted, wanted, defaults, orDefaults, wantedWith, has, fileRefusal, recordAt, lay, recordsFrom, recordsOf, Plan, planned, fits, logFits, orThen, buildRefusal, slcOf, raise, newOf}
 use Rattle.processor_spec.specs.Files.{shape, find}
 use Rattle.processor_spec.specs.Plain.{entries, holds, within, heldState, stateOf}
-use Rattle.processor_spec.specs.State.{State, every, elementSize, knownCode, goodRecord, ascend, endToEnd, total, goodText, goodLog, goodTable, sound}
+use Rattle.processor_spec.specs.State.{State, every, knownCode, goodRecord, ascend, endToEnd, total, goodText, goodLog, goodTable, sound}
 use Rattle.processor_spec.proofs.Plain.{held-is}
 use Rattle.processor_spec.proofs.Tests.{and-l, and-r, and-both}
 

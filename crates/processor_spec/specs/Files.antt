@@ -5,8 +5,9 @@ use mathlib.Core.List.{List, [], _∷_}
 use mathlib.Core.Option.{Option, none, some}
 use lib.Dec.{leb, eqb}
 use lib.ListN.{take, drop}
+use Rattle.file_type.specs.Table.{elementSize}
 use Rattle.processor_spec.specs.declared.FileRecord.{FileRecord}
-use Rattle.processor_spec.specs.State.{State, elementSize}
+use Rattle.processor_spec.specs.State.{State}
 
 -- a file's number, type and length
 unfoldable pub shape : FileRecord → ℕ × ℕ × ℕ

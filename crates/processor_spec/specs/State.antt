@@ -1,12 +1,10 @@
 -- The processor's state, and when it is sound (document 01, "Questions put to each call").
 use Prim.Native.Nat.{ℕ, suc, _+_, _%_}
-use mathlib.Core.Bool.{Bool, true, _&&_, cond}
+use mathlib.Core.Bool.{Bool, true, _&&_}
 use mathlib.Core.List.{List, [], _∷_}
 use lib.Dec.{leb, ltb, eqb}
 use lib.ListN.{length}
-use Rattle.file_type.specs.declared.Known.{Known}
-use Rattle.file_type.specs.declared.Known.the-variants as known
-use Rattle.file_type.specs.Table.{row, ofCode}
+use Rattle.file_type.specs.Table.{elementSize}
 use Rattle.processor_spec.specs.declared.FileRecord.{FileRecord}
 
 -- the file records, the data memory, the type text, and the datalog, its oldest entry first
@@ -20,15 +18,6 @@ pub record State : Type 0 where
 unfoldable pub every : {A : Type 0} → (A → Bool) → List A → Bool
 every test [] = true
 every test (x ∷ xs) = test x && every test xs
-
--- the element size of one of the twelve types, and 0 where there is none
-abbrev pub simulatedSize : Known → ℕ
-simulatedSize known.Unknown = 0
-simulatedSize (known.Is t) = cond (row t .simulated) (row t .size) 0
-
--- the same by the type code
-unfoldable pub elementSize : ℕ → ℕ
-elementSize code = simulatedSize (ofCode code)
 
 -- "is the type code one of the twelve?"
 unfoldable pub knownCode : ℕ → Bool

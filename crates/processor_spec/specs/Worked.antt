@@ -5,12 +5,12 @@ use lib.ListN.{getD, drop, replicate}
 use Rattle.base.specs.Chars.{spelled}
 use Rattle.base.specs.Numbers.{lowFirst, number}
 use Rattle.base.specs.Put.{put}
-use Rattle.file_type.specs.Table.{first, ofCode}
+use Rattle.file_type.specs.Table.{first, ofCode, elementSize}
 use Rattle.parser_spec.specs.Parts.{then}
 use Rattle.element_text.specs.Text.{fitted}
 use Rattle.directory_sys0.specs.Families.{familyIn, sys0}
 use Rattle.processor_spec.specs.declared.Done.{Done}
-use Rattle.processor_spec.specs.State.{every, elementSize, knownCode, goodRecord, ascend, endToEnd, total, goodText, goodLog, goodTable, sound}
+use Rattle.processor_spec.specs.State.{every, knownCode, goodRecord, ascend, endToEnd, total, goodText, goodLog, goodTable, sound}
 use Rattle.processor_spec.specs.Files.{find, contents, locate}
 use Rattle.processor_spec.specs.Masked.{masked, maskedAt}
 use Rattle.processor_spec.specs.Directory.{fileRows, lastNumber, directory, directorySize}

@@ -11,11 +11,11 @@ use borrow.Author.Tests.{ltb-true, ltb-false, leb-true, eqb-true, lt-ltb, le-leb
 use lib.Dec.{leb, ltb, eqb}
 use lib.ListN.{length, take}
 use lib.Seq.{length-take-le}
-use Rattle.file_type.specs.Table.{first, ofCode}
+use Rattle.file_type.specs.Table.{first, ofCode, elementSize}
 use Rattle.processor_spec.specs.declared.FileRecord.{FileRecord}
 use Rattle.processor_spec.specs.Directory.{lastNumber}
 use Rattle.processor_spec.specs.Files.{find}
-use Rattle.processor_spec.specs.State.{every, elementSize, knownCode, goodRecord, ascend, endToEnd, total, goodTable}
+use Rattle.processor_spec.specs.State.{every, knownCode, goodRecord, ascend, endToEnd, total, goodTable}
 use Rattle.processor_spec.proofs.Tests.{and-l, and-r}
 use Rattle.processor_table.specs.declared.Pass.{Pass}
 use Rattle.processor_table.specs.declared.Seen.{Seen}

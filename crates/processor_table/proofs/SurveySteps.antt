@@ -8,9 +8,9 @@ use mir.Val.{Fits}
 use borrow.Author.Tests.{leb-true, eqb-true, not-true, not-false, lt-ltb, le-leb, lt-leb, eq-eqb, ne-eqb}
 use lib.Dec.{leb, ltb, eqb}
 use Rattle.base.proofs.EveryPlace.{everyBelow, at-place}
-use Rattle.file_type.specs.Table.{first, ofCode}
+use Rattle.file_type.specs.Table.{first, ofCode, elementSize}
 use Rattle.processor_spec.specs.declared.FileRecord.{FileRecord}
-use Rattle.processor_spec.specs.State.{elementSize, knownCode}
+use Rattle.processor_spec.specs.State.{knownCode}
 use Rattle.processor_spec.proofs.Tests.{and-l, and-r, or-r}
 use Rattle.processor_table.specs.declared.Pass.{Pass}
 use Rattle.processor_table.specs.declared.Seen.{Seen}

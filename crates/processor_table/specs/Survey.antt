@@ -33,7 +33,7 @@ toldOf number rs = record {
   found = orNone (find number rs);
 }
 
--- what others tell
+-- what unsound records tell: nothing
 unfoldable pub lostOf : ℕ → Seen
 lostOf number = record { sound = false; next = 0; total = 0; number = number; hit = false; found = noRecord }
 

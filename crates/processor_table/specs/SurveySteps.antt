@@ -3,8 +3,9 @@ use Prim.Native.Nat.{ℕ, _+_, _%_}
 use mathlib.Core.Bool.{Bool, true, false, _&&_, cond}
 use mathlib.Core.List.{List, [], _∷_}
 use lib.Dec.{leb, ltb, eqb}
+use Rattle.file_type.specs.Table.{elementSize}
 use Rattle.processor_spec.specs.declared.FileRecord.{FileRecord}
-use Rattle.processor_spec.specs.State.{elementSize, knownCode}
+use Rattle.processor_spec.specs.State.{knownCode}
 use Rattle.processor_table.specs.declared.Pass.{Pass}
 use Rattle.processor_table.specs.declared.Seen.{Seen}
 use Rattle.processor_table.specs.Survey.{noRecord, lostOf}
@@ -29,7 +30,7 @@ pass next at number r = record { next = next; total = at; number = number; code 
 abbrev pub foundBy : Pass → FileRecord
 foundBy s = record { number = s .number; code = s .code; start = s .start; length = s .length }
 
--- the least number of the first of n records, in a table that holds so many; no record's number is from 65,535 to 255
+-- the least number that the first of n records may have, in a table that holds so many: 65,535, which none has, where n is 0 or above these
 unfoldable pub firstNumber : ℕ → ℕ → ℕ
 firstNumber n held = cond (ltb 0 n && leb n held) 0 65535
 

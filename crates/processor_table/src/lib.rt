@@ -17,7 +17,7 @@ pub struct Seen {
     pub found: FileRecord,
 }
 
-// Is the code one of the twelve, and the length a multiple of its element size? Constant divisors, as this is asked of each record.
+// Is the type code one of the simulator's twelve, and the length a multiple of its element size? Constant divisors, as this is asked of each record.
 fn whole(code: u8, length: u16) -> bool
     ensures { λ r. ⌜ r ≡ wholeOf code length ⌝ }
 {
@@ -60,7 +60,7 @@ fn follows(next: u16, total: u32, r: FileRecord) -> bool
     whole(r.code, r.length)
 }
 
-// The least number that the first of n records may have, in a table that holds so many: 65,535 where there is none, or not as many.
+// The least number that the first of n records may have, in a table that holds so many: 65,535, which none has, where n is 0 or the table holds fewer.
 fn first_number(n: usize, held: usize) -> u16
     ensures { λ r. ⌜ r ≡ firstNumber n held ⌝ }
 {

@@ -7,10 +7,9 @@ use native.Mathlib.Omega.{arith}
 use mir.Syntax.{w64}
 use mir.Val.{Fits}
 use borrow.Author.Tests.{le-leb, lt-leb, eq-eqb, ne-eqb}
-use lib.Dec.{leb, ltb, eqb, lit≤}
+use lib.Dec.{leb, ltb, eqb}
 use Rattle.file_type.specs.Table.{row}
-use Rattle.file_type.specs.declared.FileType.{FileType}
-use Rattle.file_type.specs.declared.FileType.the-variants.{O, I, S, B, T, C, R, N, F, ST, A, L, MG, PD, PLS}
+use Rattle.file_type.proofs.FileTypes.{size-some, size-most}
 use Rattle.address_spec.specs.declared.Address.{Address}
 use Rattle.address_spec.specs.Elements.{Elements, elementsOf}
 use Rattle.address_spec.specs.Spelling.{orZero}
@@ -33,23 +32,6 @@ module _ (x : Address) where
   bit-no h = rw h
 
 -- ---- 5
-pub sizes : (t : FileType) → (1 ≤ row t .size) × (row t .size ≤ 84)
-sizes O = (lit≤ tt, lit≤ tt)
-sizes I = (lit≤ tt, lit≤ tt)
-sizes S = (lit≤ tt, lit≤ tt)
-sizes B = (lit≤ tt, lit≤ tt)
-sizes T = (lit≤ tt, lit≤ tt)
-sizes C = (lit≤ tt, lit≤ tt)
-sizes R = (lit≤ tt, lit≤ tt)
-sizes N = (lit≤ tt, lit≤ tt)
-sizes F = (lit≤ tt, lit≤ tt)
-sizes ST = (lit≤ tt, lit≤ tt)
-sizes A = (lit≤ tt, lit≤ tt)
-sizes L = (lit≤ tt, lit≤ tt)
-sizes MG = (lit≤ tt, lit≤ tt)
-sizes PD = (lit≤ tt, lit≤ tt)
-sizes PLS = (lit≤ tt, lit≤ tt)
-
 pub size-none : (n : ℕ) → 255 < n → size.No ≡ sizeOf n
 size-none n h = rw (lt-leb _ _ h)
 
@@ -60,13 +42,13 @@ module _ (x : Address) where
   pub size-far : 255 < x .«element_count» → size.No ≡ sizeOf (readSize (elementsOf x))
   unfolding readSize
   size-far h =
-      let k : 1 * x .«element_count» ≤ row (x .«file_type») .size * x .«element_count» = mul-le-mul-right (x .«element_count») (sizes (x .«file_type») .0) in
+      let k : 1 * x .«element_count» ≤ row (x .«file_type») .size * x .«element_count» = mul-le-mul-right (x .«element_count») (size-some (x .«file_type»)) in
       size-none (row (x .«file_type») .size * x .«element_count») (omega (arith, k))
 
   module _ (e : ℕ) (d : e ≡ row (x .«file_type») .size) where
     pub size-fits : x .«element_count» ≤ 255 → Fits w64 (e * x .«element_count»)
     size-fits h =
-        let m : e ≤ 84 = rw d (sizes (x .«file_type») .1) in
+        let m : e ≤ 84 = rw d (size-most (x .«file_type»)) in
         let k : e * x .«element_count» ≤ 84 * x .«element_count» = mul-le-mul-right (x .«element_count») m in
         omega (arith, k)
 

@@ -4,6 +4,7 @@ use mathlib.Core.Path.{_≡_, refl, ap, ap₂, sym, _∙_}
 use mathlib.Core.Bool.{Bool, true, false, _&&_, cond}
 use mathlib.Core.List.{List, [], _∷_, _++_, append-nil, append-assoc}
 use mathlib.Core.Option.{Option, none, some}
+use native.Mathlib.Nat.{eq-of-mul-eq-mul-left}
 use native.Mathlib.Omega.{arith}
 use borrow.Author.Tests.{leb-true, eqb-true}
 use lib.Dec.{leb, eqb}
@@ -12,7 +13,7 @@ use Rattle.file_type.specs.declared.FileType.{FileType}
 use Rattle.file_type.specs.declared.FileType.the-variants.{O, I, S, B, T, C, R, N, F, ST, A, L, MG, PD, PLS}
 use Rattle.file_type.specs.declared.Known.the-variants as known
 use Rattle.file_type.specs.Table.{row, ofCode}
-use Rattle.file_type.proofs.FileTypes.{own-code}
+use Rattle.file_type.proofs.FileTypes.{size-some, own-code}
 use Rattle.address_spec.specs.declared.Address.{Address}
 use Rattle.address_spec.specs.declared.Parsed.{Parsed}
 use Rattle.address_spec.specs.declared.Parsed.the-variants as parsed
@@ -100,21 +101,7 @@ code-same t u e = let k : known.Is t ≡ known.Is u = own-code t ∙ ap ofCode e
 
 -- equal sizes of one type are equal counts
 count-same : (t : FileType) (n m : ℕ) → row t .size * n ≡ row t .size * m → n ≡ m
-count-same O n m e = omega arith
-count-same I n m e = omega arith
-count-same S n m e = omega arith
-count-same B n m e = omega arith
-count-same T n m e = omega arith
-count-same C n m e = omega arith
-count-same R n m e = omega arith
-count-same N n m e = omega arith
-count-same F n m e = omega arith
-count-same ST n m e = omega arith
-count-same A n m e = omega arith
-count-same L n m e = omega arith
-count-same MG n m e = omega arith
-count-same PD n m e = omega arith
-count-same PLS n m e = omega arith
+count-same t n m e = eq-of-mul-eq-mul-left (row t .size) (size-some t) n m e
 
 abbrev elements : FileType → ℕ → ℕ → ℕ → ℕ → Elements
 elements t f e p n = record { type = t; file = f; element = e; position = p; count = n }

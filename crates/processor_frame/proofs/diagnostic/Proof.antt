@@ -1,4 +1,4 @@
-use Rattle.processor_frame.proofs.DiagnosticData.{text-length, status-data}
+use Rattle.processor_frame.proofs.DiagnosticData.{status-data}
 use borrow.Author.Needs.{needs}
 use Rattle.processor_frame.proofs.diagnostic.Statement.{statement}
 use Rattle.processor_frame.proofs.diagnostic.Tie as tie
@@ -10,6 +10,8 @@ diagnostic-spec =
     (λ c κs. search needs)
     (λ c. search needs)
     (λ c. search needs)
-    (λ c. search (text-length, needs))
+    (λ c κs. search needs)
+    (λ c. search needs)
+    (λ c. search needs)
     (λ c κs. search needs)
     (λ c. search (status-data, needs)))

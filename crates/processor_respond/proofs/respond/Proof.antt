@@ -9,8 +9,10 @@ respond-spec =
     tie.close
     (tie.spec
     (λ c κs. search needs)
-    (λ c. search (refused-by, needs))
+    (λ c. search needs)
+    (λ c. search needs)
     (λ c κs. (search (well-there, needs), (search (log-good, needs), search (room-there, needs))))
+    (λ c. search (refused-by, needs))
     (λ c. search needs)
     (λ c. search needs)
     (λ c. search (responded, needs)))

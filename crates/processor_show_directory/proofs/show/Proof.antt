@@ -9,8 +9,10 @@ show-spec =
     tie.close
     (tie.spec
     (λ c κs. search needs)
-    (λ c. search (unshown-by, needs))
+    (λ c. search needs)
+    (λ c. search needs)
     (λ c. search needs)
     (λ c κs. (search (well-there, needs), search (room-there, needs)))
+    (λ c. search (unshown-by, needs))
     (λ c. search needs)
     (λ c. search (shown, needs)))
