@@ -5,7 +5,7 @@ ghost use mathlib.Core.Option.{some};
 ghost use lib.ListN.{drop};
 ghost use Rattle.file_type.specs.declared.FileType.the-variants.{C, T, L, F, B, N};
 ghost use Rattle.parser_spec.specs.Parts.{ended, firstOf};
-ghost use Rattle.parser.specs.CursorAnswers.{placeOf, wordOf};
+ghost use Rattle.parser.specs.CursorAnswers.{readAt, eatenOf, readWordOf};
 ghost use Rattle.address_spec.specs.ReaderAnswers.{typedOf, slotOf, bitOf, tailOf, foundOf};
 ghost use Rattle.address_spec.specs.Spelling.{present as Spelling·present, fileBefore, optionalBit, bitCount, ignored, optionalPosition, slots, slot as Spelling·slot, stOrA};
 use address_spec::Address;
@@ -22,7 +22,7 @@ use parser::ReadNumber;
 use parser::ReadWord;
 
 pub fn ct_letter(c: Cur, s: &[u8]) -> Typed
-    ensures { λ r. ⌜ firstOf (("C", C) ∷ ("T", T) ∷ []) (drop (c .i) (now (s .entry))) ≡ typedOf (now (s .entry)) r ⌝ }
+    ensures { λ r. ⌜ r ≡ typedOf (readAt (c .i) (now (s .entry)) (firstOf (("C", C) ∷ ("T", T) ∷ []))) ⌝ }
 {
     if let Eaten::At(d) = c.letter(s, b'C') {
         return Typed::Is(FileType::C, d);
@@ -34,7 +34,7 @@ pub fn ct_letter(c: Cur, s: &[u8]) -> Typed
 }
 
 pub fn lfbn_letter(c: Cur, s: &[u8]) -> Typed
-    ensures { λ r. ⌜ firstOf (("L", L) ∷ ("F", F) ∷ ("B", B) ∷ ("N", N) ∷ []) (drop (c .i) (now (s .entry))) ≡ typedOf (now (s .entry)) r ⌝ }
+    ensures { λ r. ⌜ r ≡ typedOf (readAt (c .i) (now (s .entry)) (firstOf (("L", L) ∷ ("F", F) ∷ ("B", B) ∷ ("N", N) ∷ []))) ⌝ }
 {
     if let Eaten::At(d) = c.letter(s, b'L') {
         return Typed::Is(FileType::L, d);
@@ -53,7 +53,7 @@ pub fn lfbn_letter(c: Cur, s: &[u8]) -> Typed
 
 // The type and file of I and O.
 fn io_letter(c: Cur, s: &[u8]) -> Slot
-    ensures { λ r. ⌜ firstOf slots (drop (c .i) (now (s .entry))) ≡ slotOf (now (s .entry)) r ⌝ }
+    ensures { λ r. ⌜ r ≡ slotOf (readAt (c .i) (now (s .entry)) (firstOf slots)) ⌝ }
 {
     if let Eaten::At(d) = c.letter(s, b'I') {
         return Slot::Is(FileType::I, 1, d);
@@ -66,7 +66,7 @@ fn io_letter(c: Cur, s: &[u8]) -> Slot
 
 // The letters ST, or A.
 pub fn st_or_a(c: Cur, s: &[u8], st: bool) -> Typed
-    ensures { λ r. ⌜ stOrA st (drop (c .i) (now (s .entry))) ≡ typedOf (now (s .entry)) r ⌝ }
+    ensures { λ r. ⌜ r ≡ typedOf (readAt (c .i) (now (s .entry)) (stOrA st)) ⌝ }
 {
     if !st {
         let Eaten::At(d) = c.letter(s, b'A') else {
@@ -85,7 +85,7 @@ pub fn st_or_a(c: Cur, s: &[u8], st: bool) -> Typed
 
 // A file and the sign behind it.
 pub fn file_then(c: Cur, s: &[u8], sign: u8) -> ReadWord
-    ensures { λ r. ⌜ fileBefore sign (drop (c .i) (now (s .entry))) ≡ wordOf (now (s .entry)) r ⌝ }
+    ensures { λ r. ⌜ r ≡ readWordOf (readAt (c .i) (now (s .entry)) (fileBefore sign)) ⌝ }
 {
     let ReadWord::Got(f, d) = c.digits_in(s, 3, 1, 255) else {
         return ReadWord::No;
@@ -98,7 +98,7 @@ pub fn file_then(c: Cur, s: &[u8], sign: u8) -> ReadWord
 
 // An optional `/` and bit.
 fn optional_bit(c: Cur, s: &[u8]) -> Bit
-    ensures { λ r. ⌜ optionalBit (drop (c .i) (now (s .entry))) ≡ bitOf (now (s .entry)) r ⌝ }
+    ensures { λ r. ⌜ r ≡ bitOf (readAt (c .i) (now (s .entry)) optionalBit) ⌝ }
 {
     let Eaten::At(d) = c.eat(s, b'/') else {
         return Bit::Got(Maybe::Missing, c);
@@ -111,7 +111,7 @@ fn optional_bit(c: Cur, s: &[u8]) -> Bit
 
 // An optional bit, and a count.
 pub fn bit_count(c: Cur, s: &[u8]) -> Tail
-    ensures { λ r. ⌜ bitCount (drop (c .i) (now (s .entry))) ≡ tailOf (now (s .entry)) r ⌝ }
+    ensures { λ r. ⌜ r ≡ tailOf (readAt (c .i) (now (s .entry)) bitCount) ⌝ }
 {
     let Bit::Got(b, d) = optional_bit(c, s) else {
         return Tail::No;
@@ -124,7 +124,7 @@ pub fn bit_count(c: Cur, s: &[u8]) -> Tail
 
 // An optional number of 1 to 3 digits, ignored.
 fn ignore_number(c: Cur, s: &[u8]) -> Eaten
-    ensures { λ r. ⌜ ignored (drop (c .i) (now (s .entry))) ≡ placeOf (now (s .entry)) r ⌝ }
+    ensures { λ r. ⌜ r ≡ eatenOf (readAt (c .i) (now (s .entry)) ignored) ⌝ }
 {
     let i = c.i;
     if parser::digit_run(s, i) == 0 {
@@ -138,7 +138,7 @@ fn ignore_number(c: Cur, s: &[u8]) -> Eaten
 
 // I or O, an optional number, `:`.
 pub fn slot(c: Cur, s: &[u8]) -> Slot
-    ensures { λ r. ⌜ Spelling·slot (drop (c .i) (now (s .entry))) ≡ slotOf (now (s .entry)) r ⌝ }
+    ensures { λ r. ⌜ r ≡ slotOf (readAt (c .i) (now (s .entry)) Spelling·slot) ⌝ }
 {
     let Slot::Is(t, f, d) = io_letter(c, s) else {
         return Slot::No;
@@ -154,7 +154,7 @@ pub fn slot(c: Cur, s: &[u8]) -> Slot
 
 // An optional `.` and position, 0 where it is absent.
 pub fn optional_position(c: Cur, s: &[u8]) -> ReadWord
-    ensures { λ r. ⌜ optionalPosition (drop (c .i) (now (s .entry))) ≡ wordOf (now (s .entry)) r ⌝ }
+    ensures { λ r. ⌜ r ≡ readWordOf (readAt (c .i) (now (s .entry)) optionalPosition) ⌝ }
 {
     let Eaten::At(d) = c.eat(s, b'.') else {
         return ReadWord::Got(0, c);

@@ -1,7 +1,7 @@
 -- Laws of the forms: the whole tag, the forms in turn, questions 1 and 2.
 use Prim.Native.Nat.{ℕ, _+_, _≤_, _<_}
 use mathlib.Core.Path.{_≡_, refl, ap, sym, _∙_}
-use mathlib.Core.List.{List, [], _∷_}
+use mathlib.Core.List.{List, []}
 use mathlib.Core.Option.{Option, none, some}
 use mathlib.Core.Bool.{Bool, true, false, not, _&&_, cond}
 use native.Mathlib.Omega.{arith}
@@ -11,13 +11,8 @@ use lib.ListN.{length, drop, getD, drop-of-length-le}
 use Rattle.base.proofs.Parts.{drop-next}
 use Rattle.file_type.specs.declared.FileType.{FileType}
 use Rattle.parser_spec.specs.DecimalNumbers.{Run, digitRun}
-use Rattle.parser_spec.specs.Parts.{Part, then, ended, whole, atEnd, letter, give, digits, beforeByte}
-use Rattle.parser.specs.CursorAnswers.{placeOf, numberAt}
-use Rattle.parser.specs.declared.Cur.{Cur}
-use Rattle.parser.specs.declared.Eaten.the-variants as place
-use Rattle.parser.specs.declared.ReadNumber.{ReadNumber}
-use Rattle.parser.specs.declared.ReadNumber.the-variants as number
-use Rattle.address_spec.specs.ReaderAnswers.{foundOf, typedOf}
+use Rattle.parser_spec.specs.Parts.{Part, then, ended, whole, atEnd, digits, beforeByte}
+use Rattle.address_spec.specs.ReaderAnswers.{foundOf}
 use Rattle.address_spec.specs.Spelling.{address, keptOf, ignored, stOrA, orTry, formOf, separates, ascii, addressOf}
 use Rattle.address_spec.specs.declared.Address.{Address}
 use Rattle.address_spec.specs.declared.Maybe.{Maybe}

@@ -1,4 +1,5 @@
 pub mod Forms
 pub mod Ranges
+pub mod Behind
 pub mod FormReaders
 pub mod SpellingRows

@@ -1,10 +1,9 @@
--- What the readers' answers say: a cursor stands for what is left of the text `s`.
+-- What the readers answer: the value of a part, and a cursor at the place behind it.
 use Prim.Native.Nat.{ℕ}
 use mathlib.Core.List.{List, []}
 use mathlib.Core.Option.{Option, none, some}
-use lib.ListN.{drop, getD}
+use lib.ListN.{getD}
 use Rattle.base.specs.Chars.{bytes}
-use Rattle.parser.specs.declared.Cur.{Cur}
 use Rattle.file_type.specs.declared.FileType.{FileType}
 use Rattle.address_spec.specs.Spelling.{ctNames}
 use Rattle.address_spec.specs.declared.Maybe.{Maybe}
@@ -23,24 +22,23 @@ use Rattle.address_spec.specs.declared.Named.the-variants as named
 use Rattle.address_spec.specs.declared.Found.{Found}
 use Rattle.address_spec.specs.declared.Found.the-variants as found
 
-module _ (s : List ℕ) where
-  unfoldable pub typedOf : Typed → Option (FileType × List ℕ)
-  typedOf typed.No = none
-  typedOf (typed.Is t c) = some (t, drop (c .i) s)
+unfoldable pub typedOf : Option (FileType × ℕ) → Typed
+typedOf none = typed.No
+typedOf (some x) = typed.Is (x .0) (record { i = x .1 })
 
-  unfoldable pub slotOf : Slot → Option ((FileType × ℕ) × List ℕ)
-  slotOf slot.No = none
-  slotOf (slot.Is t f c) = some ((t, f), drop (c .i) s)
+unfoldable pub slotOf : Option ((FileType × ℕ) × ℕ) → Slot
+slotOf none = slot.No
+slotOf (some x) = slot.Is (x .0 .0) (x .0 .1) (record { i = x .1 })
 
-  unfoldable pub bitOf : Bit → Option (Maybe × List ℕ)
-  bitOf bit.No = none
-  bitOf (bit.Got b c) = some (b, drop (c .i) s)
+unfoldable pub bitOf : Option (Maybe × ℕ) → Bit
+bitOf none = bit.No
+bitOf (some x) = bit.Got (x .0) (record { i = x .1 })
 
-  unfoldable pub tailOf : Tail → Option ((Maybe × ℕ) × List ℕ)
-  tailOf tail.No = none
-  tailOf (tail.Got b n c) = some ((b, n), drop (c .i) s)
+unfoldable pub tailOf : Option ((Maybe × ℕ) × ℕ) → Tail
+tailOf none = tail.No
+tailOf (some x) = tail.Got (x .0 .0) (x .0 .1) (record { i = x .1 })
 
--- the rest was read whole
+-- what the answer of a reader says that reads all the rest: it has no place
 unfoldable pub maybeOf : Maybe → Option (ℕ × List ℕ)
 maybeOf maybe.Missing = none
 maybeOf (maybe.Is n) = some (n, [])

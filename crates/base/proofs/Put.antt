@@ -1,14 +1,15 @@
 -- Laws of bytes laid over a memory.
 use Prim.Native.Nat.{ℕ, suc, _+_, _-_, _≤_, _<_}
 use mathlib.Core.Bool.{Bool, true, false}
-use mathlib.Core.Path.{_≡_, refl, ap, sym, _∙_}
+use mathlib.Core.Path.{_≡_, refl, ap, ap₂, sym, _∙_}
 use mathlib.Core.List.{List, [], _∷_, _++_, append-assoc, append-nil}
 use native.Mathlib.Nat.{add-zero, add-assoc, zero-add}
 use native.Mathlib.Numerals.{add-one}
 use native.Mathlib.Omega.{arith}
+use borrow.Author.Tests.{le-leb, lt-leb}
 use lib.ListN.{length, take, drop, getD, set, length-append, length-drop, take-append-drop, drop-of-length-le}
 use lib.Seq.{drop-cons, set-split, take-at, drop-at, drop-drop, length-take-le}
-use Rattle.base.specs.Put.{put, Wrote, Puts}
+use Rattle.base.specs.Put.{put, Wrote, Laid, laid, putOf, Puts}
 
 pub put-none : (l : List ℕ) (at : ℕ) → put l at [] ≡ l
 unfolding put
@@ -62,16 +63,32 @@ and-then {l} {m} {k} {at} {r} {t} {bs} {cs} a b h = record {
 pub wrote-length : {l m : List ℕ} {at r : ℕ} {bs : List ℕ} → Wrote l at bs r m → at + length bs ≤ length l → length m ≡ length l
 wrote-length {l} {m} {at} {r} {bs} w h = ap length (w .now) ∙ put-length l at bs h
 
+-- where there was room for it, it was written; where there was none, all is as it was
+module _ {l m : List ℕ} {at r : ℕ} {bs : List ℕ} (w : Puts l at bs r m) where
+  pub puts-wrote : at + length bs ≤ length l → Wrote l at bs r m
+  unfolding putOf
+  puts-wrote h =
+      let e : laid r m ≡ laid (at + length bs) (put l at bs) = w .is ∙ rw (le-leb (at + length bs) (length l) h) in
+      record { end = ap (λ (x : Laid). x .end) e; now = ap (λ (x : Laid). x .memory) e }
+
+  pub puts-kept : length l < at + length bs → (r ≡ at) × (m ≡ l)
+  unfolding putOf
+  puts-kept h =
+      let e : laid r m ≡ laid at l = w .is ∙ rw (lt-leb (at + length bs) (length l) h) in
+      (ap (λ (x : Laid). x .end) e, ap (λ (x : Laid). x .memory) e)
+
 pub puts-length : {l m : List ℕ} {at r : ℕ} {bs : List ℕ} → Puts l at bs r m → at + length bs ≤ length l → length m ≡ length l
-puts-length w h = wrote-length (w .room h) h
+puts-length w h = wrote-length (puts-wrote w h) h
 
 -- there was room, or there was none
 module _ {l : List ℕ} {at : ℕ} (k : ℕ) {bs : List ℕ} (n : length bs ≡ k) where
   pub puts-room : {m : List ℕ} {r : ℕ} → at + k ≤ length l → Wrote l at bs r m → Puts l at bs r m
-  puts-room h w = record { room = λ _. w; full = λ g. absurd (omega arith) }
+  unfolding putOf
+  puts-room h w = record { is = ap₂ laid (w .end) (w .now) ∙ rw (le-leb (at + length bs) (length l) (omega arith)) }
 
   pub puts-full : length l < at + k → Puts l at bs at l
-  puts-full g = record { room = λ h. absurd (omega arith); full = λ _. (refl, refl) }
+  unfolding putOf
+  puts-full g = record { is = rw (lt-leb (at + length bs) (length l) (omega arith)) }
 
 -- a loop that lays the bytes `whole` from `at` on, one a turn: what is left of the work, done on the memory as it is now, gives what the
 -- whole work gives
@@ -99,9 +116,9 @@ put-same l at h =
 pub puts-both : {l m k : List ℕ} {r t : ℕ} {bs cs : List ℕ} (at : ℕ) → Puts l at bs r m → Puts m (at + length bs) cs t k → at + length (bs ++ cs) ≤ length l → k ≡ put l at (bs ++ cs)
 puts-both {l} {m} {k} {r} {t} {bs} {cs} at a b h =
     let n : length (bs ++ cs) ≡ length bs + length cs = length-append bs cs in
-    let w : Wrote l at bs r m = a .room (omega arith) in
+    let w : Wrote l at bs r m = puts-wrote a (omega arith) in
     let e : length m ≡ length l = wrote-length w (omega arith) in
-    let v : Wrote m (at + length bs) cs t k = b .room (omega arith) in
+    let v : Wrote m (at + length bs) cs t k = puts-wrote b (omega arith) in
     v .now ∙ ap (λ (x : List ℕ). put x (at + length bs) cs) (w .now) ∙ put-more l at bs (omega arith) cs
 
 -- what lies in front of a place, and from there on, where bytes were laid from the start

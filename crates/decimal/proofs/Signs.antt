@@ -16,7 +16,7 @@ use mir.Val.{Fits, SFits, hbits, toZ, ofZ}
 use mir.Facts.{toZ-ofZ, toZ-pos, sfits-widen}
 use borrow.Author.Tests.{lt-ltb, le-ltb, le-leb, lt-leb, eq-eqb, ne-eqb, ltb-true}
 use Rattle.base.specs.Put.{Wrote, Puts}
-use Rattle.base.proofs.Put.{put-front, wrote-length}
+use Rattle.base.proofs.Put.{put-front, wrote-length, puts-wrote}
 use Rattle.decimal.specs.Decimals.{decimal, signedText, numberOf, unsignedOf, plus, minus, signedOf}
 use Rattle.decimal.specs.declared.Decimal.{Decimal}
 use Rattle.decimal.specs.declared.Whole.{Whole}
@@ -149,7 +149,7 @@ module _ (z : ℤ) (f : SFits w64 z) where
     room = omega (arith, decimal-length 18 m (omega (arith, itself-is z f, natAbs-le z (f .sfits))))
 
     wrote : Wrote t 1 (decimal m) e x
-    wrote = w .room room
+    wrote = puts-wrote w room
 
     pub signed-fits : e ≤ length x
     signed-fits = omega (arith, wrote .end, wrote-length wrote room, room)

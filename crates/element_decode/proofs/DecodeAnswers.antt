@@ -17,7 +17,7 @@ use mir.ValLaws.{toZ-ofZ}
 use Rattle.base.specs.Numbers.{number}
 use Rattle.base.specs.Put.{put, Puts}
 use Rattle.base.proofs.Masks.{shifted}
-use Rattle.base.proofs.Put.{put-whole}
+use Rattle.base.proofs.Put.{put-whole, puts-wrote}
 use Rattle.file_type.specs.declared.FileType.{FileType}
 use Rattle.file_type.specs.Table.{row, bitNames}
 use Rattle.file_type.proofs.FieldNames.{bits-most}
@@ -77,7 +77,7 @@ module _ (s l : List ℕ) where
   text-put : (n : ℕ) {r : ℕ} {m : List ℕ} → 82 ≤ length l → length s ≡ n → n ≤ 82 → Puts l 0 s r m → Reads (textIn (length l) s) l (element.Text n) m
   text-put n {r} {m} h e g w =
       let t : ltb (length l) 82 ≡ false = le-ltb (length l) 82 h in
-      rw t (record { answer = ap element.Text (sym e); memory = w .room (omega arith) .now })
+      rw t (record { answer = ap element.Text (sym e); memory = puts-wrote w (omega arith) .now })
 
 two : (e : List ℕ) → 2 ≤ length e → getD e 1 0 ∷ getD e 0 0 ∷ [] ≡ swapPairs (take 2 e)
 unfolding swapPairs
@@ -93,7 +93,7 @@ ascii-read bytes l {r} {m} h g w =
 pub characters-are : (bytes z s : List ℕ) {r : ℕ} {m : List ℕ} → 84 ≤ length bytes → length z ≡ 82 → Puts z 0 (take 82 (drop 2 bytes)) r m → s ≡ swapPairs m → s ≡ swapPairs (take 82 (drop 2 bytes))
 characters-are bytes z s {r} {m} h n w e =
     let k : length (take 82 (drop 2 bytes)) ≡ 82 = length-take-le 82 (drop 2 bytes) (simp length-drop (omega arith)) in
-    e ∙ ap swapPairs (w .room (omega arith) .now ∙ put-whole z (take 82 (drop 2 bytes)) (k ∙ sym n))
+    e ∙ ap swapPairs (puts-wrote w (omega arith) .now ∙ put-whole z (take 82 (drop 2 bytes)) (k ∙ sym n))
 
 module _ (bytes cs : List ℕ) (n x : ℕ) (h : 84 ≤ length bytes) (ex : x ≡ wordAt 0 bytes) (en : n ≡ min 82 x) (e : cs ≡ swapPairs (take 82 (drop 2 bytes))) where
   pub line-cut : n ≡ length (take n cs)

@@ -12,26 +12,26 @@ use Rattle.base.specs.Numbers.{lowFirst}
 use Rattle.base.specs.Outcome.{Outcome, lays}
 use Rattle.base.specs.Put.{Wrote, Puts}
 use Rattle.base.proofs.Numbers.{low-length}
-use Rattle.base.proofs.Put.{and-then, wrote-length}
+use Rattle.base.proofs.Put.{and-then, wrote-length, puts-wrote}
 use Rattle.element_spec.specs.declared.Stored.{Stored}
 use Rattle.element_spec.specs.declared.Stored.the-variants as stored
 use Rattle.element_spec.specs.declared.Value.{Value}
 use Rattle.element_spec.specs.declared.Value.the-variants as value
 use Rattle.element_whole.specs.declared.Bits.{Bits}
 use Rattle.element_whole.specs.declared.Bits.the-variants as bits
-use Rattle.element_spec.specs.Encode.{Stores, floatOf, wordsOf, onWhole, onFloat, onText, onFields}
-use Rattle.element_spec.proofs.ElementStores.{no-store, a-store, is-out, is-in, read-again}
+use Rattle.element_spec.specs.Encode.{Stores, ofBytes, floatOf, wordsOf, onWhole, onFloat, onText, onFields}
+use Rattle.element_spec.proofs.ElementStores.{no-store, a-store, behind-19, is-out, is-in, read-again}
 use Rattle.element_whole.specs.Whole.{inRange, twos, bitsOf}
 
 -- ---- by the kind of value
-pub on-whole : (v : Value) (n : ℤ) (f : ℤ → Outcome) (l : List ℕ) {r : Stored} {m : List ℕ} (k : ℕ) → v ≡ value.Whole n → SFits w64 n → (k ≤ length l → Stores (f (toZ w64 (ofZ w64 n))) l r m) → k ≤ length l → Stores (onWhole v f) l r m
-on-whole v n f l {r} {m} k e g w h = rw e (read-again n g (λ (x : ℤ). Stores (f x) l r m) (w h))
+pub on-whole : (v : Value) (n : ℤ) (f : ℤ → Outcome) (l : List ℕ) {r : Stored} {m : List ℕ} (k : ℕ) → v ≡ value.Whole n → SFits w64 n → k ≤ length l → Stores (ofBytes k l (f (toZ w64 (ofZ w64 n)))) l r m → Stores (onWhole v f) l r m
+on-whole v n f l {r} {m} k e g h w = rw e (read-again n g (λ (x : ℤ). Stores (f x) l r m) (behind-19 k l _ h w))
 
 pub on-float : (v : Value) (b : ℕ) (f : ℕ → Outcome) (l : List ℕ) {r : Stored} {m : List ℕ} → v ≡ value.Float b → Stores (f b) l r m → Stores (onFloat v f) l r m
 on-float v b f l e w = rw e w
 
-pub on-text : (v : Value) (o : Outcome) (l : List ℕ) {r : Stored} {m : List ℕ} (k : ℕ) → v ≡ value.Text → (k ≤ length l → Stores o l r m) → k ≤ length l → Stores (onText v o) l r m
-on-text v o l k e w h = rw e (w h)
+pub on-text : (v : Value) (o : Outcome) (l : List ℕ) {r : Stored} {m : List ℕ} (k : ℕ) → v ≡ value.Text → k ≤ length l → Stores (ofBytes k l o) l r m → Stores (onText v o) l r m
+on-text v o l k e h w = rw e (behind-19 k l o h w)
 
 module _ (v : Value) (f : ℤ → ℤ → ℤ → Outcome) (g : ℤ → Outcome) (l : List ℕ) {r : Stored} {m : List ℕ} where
   pub on-words : (x y z : ℤ) → v ≡ value.Words x y z → SFits w64 x → SFits w64 y → SFits w64 z → Stores (f (toZ w64 (ofZ w64 x)) (toZ w64 (ofZ w64 y)) (toZ w64 (ofZ w64 z))) l r m → Stores (onFields v f g) l r m
@@ -40,8 +40,8 @@ module _ (v : Value) (f : ℤ → ℤ → ℤ → Outcome) (g : ℤ → Outcome)
       (read-again y q (λ (a : ℤ). Stores (f (toZ w64 (ofZ w64 x)) a z) l r m)
       (read-again z s (λ (a : ℤ). Stores (f (toZ w64 (ofZ w64 x)) (toZ w64 (ofZ w64 y)) a) l r m) w)))
 
-  pub on-field : (z : ℤ) → v ≡ value.Field z → SFits w64 z → (6 ≤ length l → Stores (g (toZ w64 (ofZ w64 z))) l r m) → 6 ≤ length l → Stores (onFields v f g) l r m
-  on-field z e s w h = rw e (read-again z s (λ (a : ℤ). Stores (g a) l r m) (w h))
+  pub on-field : (z : ℤ) → v ≡ value.Field z → SFits w64 z → 6 ≤ length l → Stores (ofBytes 6 l (g (toZ w64 (ofZ w64 z)))) l r m → Stores (onFields v f g) l r m
+  on-field z e s h w = rw e (read-again z s (λ (a : ℤ). Stores (g a) l r m) (behind-19 6 l _ h w))
 
 -- ---- float bits
 module _ {l m : List ℕ} {r : ℕ} where
@@ -54,11 +54,11 @@ words-laid {l} {m₁} {m₂} {m₃} {p} {q} {r} a b c h x y z =
     let na : length (lowFirst 2 a) ≡ 2 = low-length 2 a in
     let nb : length (lowFirst 2 b) ≡ 2 = low-length 2 b in
     let nc : length (lowFirst 2 c) ≡ 2 = low-length 2 c in
-    let u : Wrote l 0 (lowFirst 2 a) p m₁ = x .room (omega arith) in
+    let u : Wrote l 0 (lowFirst 2 a) p m₁ = puts-wrote x (omega arith) in
     let n₁ : length m₁ ≡ length l = wrote-length u (omega arith) in
-    let v : Wrote m₁ p (lowFirst 2 b) q m₂ = y .room (omega (arith, u .end)) in
+    let v : Wrote m₁ p (lowFirst 2 b) q m₂ = puts-wrote y (omega (arith, u .end)) in
     let n₂ : length m₂ ≡ length m₁ = wrote-length v (omega (arith, u .end)) in
-    let w : Wrote m₂ q (lowFirst 2 c) r m₃ = z .room (omega (arith, u .end, v .end)) in
+    let w : Wrote m₂ q (lowFirst 2 c) r m₃ = puts-wrote z (omega (arith, u .end, v .end)) in
     let both : Wrote l 0 (lowFirst 2 a ++ lowFirst 2 b) q m₂ = and-then u v (omega arith) in
     let n₃ : length (lowFirst 2 a ++ lowFirst 2 b) ≡ 4 = rw (length-append, na, nb) in
     subst (λ (s : List ℕ). Wrote l 0 s r m₃) (append-assoc (lowFirst 2 a) (lowFirst 2 b) (lowFirst 2 c)) (and-then both w (omega arith))

@@ -1,17 +1,16 @@
-// Numbers, bits and named fields into the bytes of an element. The contracts speak of an element that has these bytes: `encode_element` asks that
-// first (19).
+// Numbers, bits and named fields into the bytes of an element.
 ghost use Prim.Native.Nat.{_+_, _≤_};
 ghost use mathlib.Core.Bool.{cond};
 ghost use mathlib.Core.Path.{_≡_};
 ghost use lib.ListN.{length};
 ghost use Rattle.file_type.specs.Fields.{Placed};
-ghost use Rattle.element_spec.specs.Encode.{Stores, wholeAt, bitOf, fieldOf, namedOf};
+ghost use Rattle.element_spec.specs.Encode.{Stores, ofBytes, wholeAt, bitOf, fieldOf, namedOf};
 use element_spec::Stored;
 use element_whole::Bits;
 use file_type::Field;
 use file_type::FileType;
 
-// A number of k bytes from a place on, where it is in range and the element has the bytes.
+// A number of k bytes from a place on.
 pub fn put_whole(
     ones: u64,
     low: u64,
@@ -21,8 +20,14 @@ pub fn put_whole(
     at: usize,
     k: usize,
 ) -> Stored
-    ensures { λ r. ⌜ (at + k ≤ length (now (element .entry)) → Stores (wholeAt at k ones low high n) (now (element .entry)) r (now (element .exit))) ⌝ }
+    ensures { λ r. ⌜ Stores (ofBytes (at + k) (now (element .entry)) (wholeAt at k ones low high n)) (now (element .entry)) r (now (element .exit)) ⌝ }
 {
+    if element.len() < at {
+        return Stored::Refused(19);
+    }
+    if element.len() - at < k {
+        return Stored::Refused(19);
+    }
     let Bits::In(b) = element_whole::bits_of(ones, low, high, n) else {
         return Stored::Refused(22);
     };
@@ -32,7 +37,8 @@ pub fn put_whole(
 
 // Sets or clears a bit of word 0.
 fn put_bit(b: u8, clear: bool, element: &mut [u8]) -> Stored
-    ensures { λ r. ⌜ (2 ≤ length (now (element .entry)) → Stores (bitOf b clear (now (element .entry))) (now (element .entry)) r (now (element .exit))) ⌝ }
+    requires { ⌜ 2 ≤ length (now element) ⌝ }
+    ensures { λ r. ⌜ Stores (bitOf b clear (now (element .entry))) (now (element .entry)) r (now (element .exit)) ⌝ }
 {
     let mask = base::bit_mask(b);
     let old = base::word_at(element, 0);
@@ -53,7 +59,8 @@ fn mask_or_zero(mask: u16, clear: bool) -> u16
 // One named field.
 fn put_field(f: Field, n: i64, element: &mut [u8]) -> Stored
     requires { ⌜ Placed f ⌝ }
-    ensures { λ r. ⌜ (6 ≤ length (now (element .entry)) → Stores (fieldOf f n (now (element .entry))) (now (element .entry)) r (now (element .exit))) ⌝ }
+    requires { ⌜ 6 ≤ length (now element) ⌝ }
+    ensures { λ r. ⌜ Stores (fieldOf f n (now (element .entry))) (now (element .entry)) r (now (element .exit)) ⌝ }
 {
     match f {
         Field::Unknown => Stored::Refused(21),
@@ -64,7 +71,10 @@ fn put_field(f: Field, n: i64, element: &mut [u8]) -> Stored
 
 // The field that a type gives this name.
 pub fn put_named(t: FileType, name: &[u8], n: i64, element: &mut [u8]) -> Stored
-    ensures { λ r. ⌜ (6 ≤ length (now (element .entry)) → Stores (namedOf t (now (name .entry)) (now (element .entry)) n) (now (element .entry)) r (now (element .exit))) ⌝ }
+    ensures { λ r. ⌜ Stores (ofBytes 6 (now (element .entry)) (namedOf t (now (name .entry)) (now (element .entry)) n)) (now (element .entry)) r (now (element .exit)) ⌝ }
 {
+    if element.len() < 6 {
+        return Stored::Refused(19);
+    }
     put_field(file_type_fields::field(t, name), n, element)
 }

@@ -1,13 +1,14 @@
-// Text into the bytes of an element. The contracts speak of an element that has these bytes: `encode_element` asks that first (19).
-ghost use Prim.Native.Nat.{_≤_};
-ghost use lib.ListN.{length};
-ghost use Rattle.element_spec.specs.Encode.{Stores, asciiOf, lineOf};
+// Text into the bytes of an element.
+ghost use Rattle.element_spec.specs.Encode.{Stores, ofBytes, asciiOf, lineOf};
 use element_spec::Stored;
 
 // Text of A.
 pub fn put_ascii(text: &[u8], element: &mut [u8]) -> Stored
-    ensures { λ r. ⌜ (2 ≤ length (now (element .entry)) → Stores (asciiOf (now (text .entry))) (now (element .entry)) r (now (element .exit))) ⌝ }
+    ensures { λ r. ⌜ Stores (ofBytes 2 (now (element .entry)) (asciiOf (now (text .entry)))) (now (element .entry)) r (now (element .exit)) ⌝ }
 {
+    if element.len() < 2 {
+        return Stored::Refused(19);
+    }
     let bytes = element_text::encode_pccc_ascii(text);
     base::put_all(element, 0, &bytes);
     Stored::Done
@@ -15,8 +16,11 @@ pub fn put_ascii(text: &[u8], element: &mut [u8]) -> Stored
 
 // Text of ST.
 pub fn put_line(text: &[u8], element: &mut [u8]) -> Stored
-    ensures { λ r. ⌜ (84 ≤ length (now (element .entry)) → Stores (lineOf (now (text .entry))) (now (element .entry)) r (now (element .exit))) ⌝ }
+    ensures { λ r. ⌜ Stores (ofBytes 84 (now (element .entry)) (lineOf (now (text .entry)))) (now (element .entry)) r (now (element .exit)) ⌝ }
 {
+    if element.len() < 84 {
+        return Stored::Refused(19);
+    }
     if 82 < text.len() {
         return Stored::Refused(23);
     }

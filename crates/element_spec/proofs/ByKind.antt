@@ -3,7 +3,7 @@ use Prim.Native.Nat.{ℕ, _≤_, _<_}
 use mathlib.Core.Path.{_≡_, refl, sym, subst, _∙_}
 use mathlib.Core.List.{List}
 use native.Mathlib.Omega.{arith}
-use borrow.Author.Tests.{leb-true, lt-ltb, le-ltb}
+use borrow.Author.Tests.{leb-true}
 use lib.Dec.{leb}
 use lib.ListN.{length}
 use Rattle.file_type.specs.declared.FileType.{FileType}
@@ -15,7 +15,7 @@ use Rattle.element_spec.specs.declared.Stored.{Stored}
 use Rattle.element_spec.specs.declared.Stored.the-variants as stored
 use Rattle.element_spec.specs.declared.Value.{Value}
 use Rattle.element_spec.specs.Encode.{kindOf, encodeAs, encoded, Stores}
-use Rattle.element_spec.proofs.ElementStores.{no-store}
+use Rattle.element_spec.proofs.ElementStores.{no-store, too-few, all-there}
 
 -- the bytes that the values of a kind take
 abbrev pub sizeFor : ElementKind → ℕ
@@ -37,12 +37,12 @@ room-for K t {k} {s} {n} e f g h = subst (λ (x : ElementKind). sizeFor x ≤ n)
 module _ (t : FileType) (v : Value) (text l : List ℕ) {s : ℕ} (g : s ≡ row t .size) where
   pub set-short : length l < s → Stores (encoded t v text l) l (stored.Refused 19) l
   unfolding encoded
-  set-short h = no-store 19 l (rw (lt-ltb (length l) (row t .size) (omega arith)))
+  set-short h = too-few (row t .size) l _ (omega arith)
 
   by-kind : (K : ElementKind) {k : ElementKind} {r : Stored} {m : List ℕ} → s ≤ length l → k ≡ kindOf t → k ≡ K → Stores (encodeAs K t v text l) l r m → Stores (encoded t v text l) l r m
   unfolding encoded
   by-kind K {k} {r} {m} h e f w =
-      rw (le-ltb (length l) (row t .size) (omega arith)) (subst (λ (x : ElementKind). Stores (encodeAs x t v text l) l r m) (sym f ∙ e) w)
+      all-there (row t .size) l _ (omega arith) (subst (λ (x : ElementKind). Stores (encodeAs x t v text l) l r m) (sym f ∙ e) w)
 
   pub set-other : {k : ElementKind} → s ≤ length l → k ≡ kindOf t → k ≡ kind.Other → Stores (encoded t v text l) l (stored.Refused 20) l
   set-other h e f = by-kind kind.Other h e f (no-store 20 l refl)

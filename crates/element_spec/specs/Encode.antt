@@ -123,9 +123,12 @@ encodeAs kind.Line t v text old = onText v (lineOf text)
 encodeAs kind.Fields t v text old = onFields v wordsOf (namedOf t text old)
 encodeAs kind.Other t v text old = refused 20
 
--- 19: are the element's bytes there?
+-- 19: are so many bytes there?
+abbrev pub ofBytes : ℕ → List ℕ → Outcome → Outcome
+ofBytes n bytes o = cond (ltb (length bytes) n) (refused 19) o
+
 unfoldable pub encoded : FileType → Value → List ℕ → List ℕ → Outcome
-encoded t v text bytes = cond (ltb (length bytes) (row t .size)) (refused 19) (encodeAs (kindOf t) t v text bytes)
+encoded t v text bytes = ofBytes (row t .size) bytes (encodeAs (kindOf t) t v text bytes)
 
 -- what the call answers
 abbrev pub storedOf : Outcome → Stored

@@ -5,7 +5,7 @@ use mathlib.Core.List.{List, [], _∷_, _++_}
 use lib.Dec.{ltb}
 use lib.ListN.{length, take, replicate}
 use Rattle.base.specs.Numbers.{lowFirst}
-use Rattle.base.specs.Put.{put}
+use Rattle.base.specs.Outcome.{Outcome, refused, lays, left}
 use Rattle.element_text.specs.declared.Swapped.{Swapped}
 use Rattle.element_text.specs.declared.Swapped.the-variants as swapped
 
@@ -31,9 +31,17 @@ asciiText s = swapPairs (fitted 2 0x20 s)
 unfoldable pub stringText : List ℕ → List ℕ
 stringText s = lowFirst 2 (length (take 82 s)) ++ swapPairs (fitted 82 0 s)
 
--- what a call says that writes these bytes where there is room for them, and leaves: 6 where there is none
+-- what a call does that writes these bytes: 6 where there is no room for them
+abbrev pub inRoom : List ℕ → List ℕ → Outcome
+inRoom bs out = cond (ltb (length out) (length bs)) (refused 6) (lays 0 bs)
+
+-- what it answers, and the memory that it leaves
+abbrev pub swappedOf : Outcome → Swapped
+swappedOf (refused n) = swapped.Refused n
+swappedOf (lays at bs) = swapped.Written (length bs)
+
 abbrev pub writtenOf : List ℕ → List ℕ → Swapped
-writtenOf bs out = cond (ltb (length out) (length bs)) (swapped.Refused 6) (swapped.Written (length bs))
+writtenOf bs out = swappedOf (inRoom bs out)
 
 abbrev pub outOf : List ℕ → List ℕ → List ℕ
-outOf bs out = cond (ltb (length out) (length bs)) out (put out 0 bs)
+outOf bs out = left (inRoom bs out) out

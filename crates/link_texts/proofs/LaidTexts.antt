@@ -6,6 +6,7 @@ use native.Mathlib.Nat.{zero-add}
 use native.Mathlib.Omega.{arith}
 use borrow.Author.Tests.{lt-ltb, le-ltb}
 use lib.ListN.{length, take, drop, length-drop}
+use Rattle.base.proofs.Put.{puts-wrote}
 use Rattle.base.specs.Put.{put, Wrote, Puts}
 use Rattle.reply.specs.Status.{datalogEntry}
 use Rattle.reply.proofs.Status.{entry-is}
@@ -19,7 +20,7 @@ module _ (bs l : List ℕ) where
 
   pub laid : {r : SlcWritten} {n : ℕ} {l′ : List ℕ} → length bs ≤ length l → Puts l 0 bs n l′ → r ≡ written 0 n → Swaps bs l r l′
   laid h p e =
-      let w : Wrote l 0 bs _ _ = p .room (omega arith) in
+      let w : Wrote l 0 bs _ _ = puts-wrote p (omega arith) in
       record { answer = rw (le-ltb _ _ h) (e ∙ ap (written 0) (w .end ∙ zero-add (length bs))); memory = rw (le-ltb _ _ h) (w .now) }
 
 -- ---- the datalog entry

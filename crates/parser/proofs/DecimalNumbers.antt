@@ -10,6 +10,7 @@ use lib.ListN.{length, drop, getD, drop-of-length-le, length-drop}
 use Rattle.base.proofs.Parts.{drop-next}
 use Rattle.parser_spec.specs.DecimalNumbers.{isDigit, digitValue, digitRun, Run, decimal, most, numberOf}
 use Rattle.parser_spec.specs.Parts.{beforeByte}
+use Rattle.parser_spec.proofs.Behind.{run-within}
 
 pub not-digit : (b : ℕ) → b < 48 → false ≡ isDigit b
 not-digit b h = rw (lt-leb 48 b h)
@@ -26,16 +27,6 @@ high-value b h = let k : 48 ≤ b = omega arith in rw (le-leb 48 b k, lt-leb b 5
 
 pub value : (b : ℕ) → 48 ≤ b → b ≤ 57 → b - 48 ≡ digitValue b
 value b h k = rw (le-leb 48 b h, le-leb b 57 k)
-
--- a run of digits lies in the text
-run-within : (s : List ℕ) → digitRun s ≤ length s
-unfolding digitRun
-run-within [] = omega arith
-run-within (b ∷ s) = go (isDigit b) (run-within s)
-  where
-    go : (t : Bool) → digitRun s ≤ length s → cond t (suc (digitRun s)) 0 ≤ suc (length s)
-    go true h = omega arith
-    go false h = omega arith
 
 run-is : (s : List ℕ) (at r : ℕ) → r ≡ digitRun (drop at s) → Run s at r
 run-is s at r e = record { is = e; fits = rw (e, ← length-drop at s) (run-within (drop at s)) }

@@ -4,7 +4,7 @@ ghost use Prim.Native.Nat.{_+_, _*_, min};
 ghost use lib.ListN.{drop};
 ghost use Rattle.parser_spec.specs.DecimalNumbers.{isDigit, digitValue, Run, most, numberOf};
 ghost use Rattle.parser_spec.specs.Parts.{atEnd, byte, letterByte, numeral, digits, digitsIn, countNumber, countOf, beforeByte};
-ghost use Rattle.parser.specs.CursorAnswers.{placeOf, numberAt, wordOf};
+ghost use Rattle.parser.specs.CursorAnswers.{readAt, eatenOf, readNumberOf, readWordOf};
 
 // A place in a text.
 pub struct Cur {
@@ -106,7 +106,7 @@ pub fn find(s: &[u8], v: u8) -> usize
 impl Cur {
     // This byte.
     pub fn eat(self, s: &[u8], v: u8) -> Eaten
-        ensures { λ r. ⌜ byte v (drop (self .i) (now (s .entry))) ≡ placeOf (now (s .entry)) r ⌝ }
+        ensures { λ r. ⌜ r ≡ eatenOf (readAt (self .i) (now (s .entry)) (byte v)) ⌝ }
     {
         let i = self.i;
         if s.len() <= i {
@@ -120,7 +120,7 @@ impl Cur {
 
     // This capital letter or its small one.
     pub fn letter(self, s: &[u8], v: u8) -> Eaten
-        ensures { λ r. ⌜ letterByte v (drop (self .i) (now (s .entry))) ≡ placeOf (now (s .entry)) r ⌝ }
+        ensures { λ r. ⌜ r ≡ eatenOf (readAt (self .i) (now (s .entry)) (letterByte v)) ⌝ }
     {
         let i = self.i;
         if s.len() <= i {
@@ -134,7 +134,7 @@ impl Cur {
 
     // One digit or more, and no digit behind them.
     pub fn numeral(self, s: &[u8]) -> ReadNumber
-        ensures { λ r. ⌜ numeral (drop (self .i) (now (s .entry))) ≡ numberAt (now (s .entry)) r ⌝ }
+        ensures { λ r. ⌜ r ≡ readNumberOf (readAt (self .i) (now (s .entry)) numeral) ⌝ }
     {
         let i = self.i;
         let n = digit_run(s, i);
@@ -147,7 +147,7 @@ impl Cur {
 
     // The same, with at most so many digits.
     pub fn digits(self, s: &[u8], max: usize) -> ReadNumber
-        ensures { λ r. ⌜ digits max (drop (self .i) (now (s .entry))) ≡ numberAt (now (s .entry)) r ⌝ }
+        ensures { λ r. ⌜ r ≡ readNumberOf (readAt (self .i) (now (s .entry)) (digits max)) ⌝ }
     {
         let i = self.i;
         if max < digit_run(s, i) {
@@ -158,7 +158,7 @@ impl Cur {
 
     // The same, from low to high.
     pub fn digits_in(self, s: &[u8], max: usize, low: u16, high: u16) -> ReadWord
-        ensures { λ r. ⌜ digitsIn max low high (drop (self .i) (now (s .entry))) ≡ wordOf (now (s .entry)) r ⌝ }
+        ensures { λ r. ⌜ r ≡ readWordOf (readAt (self .i) (now (s .entry)) (digitsIn max low high)) ⌝ }
     {
         let ReadNumber::Got(n, c) = self.digits(s, max) else {
             return ReadWord::No;
@@ -174,7 +174,7 @@ impl Cur {
 
     // The number of a count: any, or only 1 or 2.
     fn count_number(self, s: &[u8], one_or_two: bool) -> ReadNumber
-        ensures { λ r. ⌜ countNumber «one_or_two» (drop (self .i) (now (s .entry))) ≡ numberAt (now (s .entry)) r ⌝ }
+        ensures { λ r. ⌜ r ≡ readNumberOf (readAt (self .i) (now (s .entry)) (countNumber «one_or_two»)) ⌝ }
     {
         if !one_or_two {
             return self.numeral(s);
@@ -187,7 +187,7 @@ impl Cur {
 
     // An optional `{n}`, 1 where it is absent.
     pub fn count(self, s: &[u8], one_or_two: bool) -> ReadNumber
-        ensures { λ r. ⌜ countOf «one_or_two» (drop (self .i) (now (s .entry))) ≡ numberAt (now (s .entry)) r ⌝ }
+        ensures { λ r. ⌜ r ≡ readNumberOf (readAt (self .i) (now (s .entry)) (countOf «one_or_two»)) ⌝ }
     {
         let Eaten::At(c) = self.eat(s, b'{') else {
             return ReadNumber::Got(1, self);

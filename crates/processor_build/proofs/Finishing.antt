@@ -10,7 +10,7 @@ use lib.ListN.{length, take, drop, set, replicate, length-replicate}
 use lib.Seq.{length-take-le, take-all}
 use Rattle.base.specs.Put.{put, Puts}
 use Rattle.base.proofs.Parts.{drop-replicate}
-use Rattle.base.proofs.Put.{put-none, put-cons}
+use Rattle.base.proofs.Put.{put-none, put-cons, puts-wrote}
 use Rattle.element_text.specs.Text.{fitted}
 use Rattle.processor_spec.specs.declared.Made.the-variants as made
 use Rattle.processor_spec.specs.declared.Refusal.the-variants as refusal
@@ -55,7 +55,7 @@ module _ (s : List ℕ) (n : ℕ) (e : n ≡ min 11 (length s)) where
   unfolding fitted put
   text-is l r a =
       let w : 0 + length (take n s) ≤ length {A = ℕ} (replicate 11 0) = omega (arith, cut-length, length-replicate {A = ℕ} 11 0) in
-      a .room w .now ∙ ap₂ (λ (x y : List ℕ). x ++ y) cut tail
+      puts-wrote a w .now ∙ ap₂ (λ (x y : List ℕ). x ++ y) cut tail
 
 pub slc-is : (files : ℕ) (text : List ℕ) (count : ℕ) (t : List ℕ) → t ≡ fitted 11 0 text
     → _≡_ {A = Slc} (record { files = files; «type_text» = t; «type_len» = length text; «log_at» = 0; «log_left» = count }) (slcWith files text count)

@@ -12,7 +12,7 @@ use Rattle.processor_table.specs.declared.Seen.{Seen}
 use Rattle.processor_table.specs.SurveySteps.{folded, begunOf, passedOf, concludedOf}
 use Rattle.processor_table.specs.Survey.{noRecord, surveyOf}
 use Rattle.processor_table.proofs.SurveyRight.{survey-right}
-use Rattle.processor_table.proofs.Surveying.{sees, at-end}
+use Rattle.processor_table.proofs.TableLoop.{sees, at-end}
 
 abbrev pub blank : List FileRecord
 blank = replicate 256 noRecord

@@ -15,7 +15,7 @@ use mir.Syntax.{w64, tyInt, tcons, tnil}
 use mir.Val.{vint, vcons, vnil}
 use Rattle.file_type.proofs.FileType as F
 use Rattle.file_type.proofs.FileType.Laws as F′
-use Rattle.processor_table.proofs.Surveying.{State, of-enum}
+use Rattle.processor_table.proofs.Walking.{State, of-enum}
 use Rattle.processor_element.proofs.Accessing.{Wanted}
 
 abbrev pub spot : Wanted

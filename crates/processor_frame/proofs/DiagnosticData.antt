@@ -8,6 +8,7 @@ use borrow.Author.Tests.{leb-true, leb-false}
 use lib.Dec.{leb}
 use lib.ListN.{length, take, replicate}
 use lib.Seq.{length-take-le, take-all}
+use Rattle.base.proofs.Put.{puts-wrote}
 use Rattle.base.specs.Put.{put, Wrote, Puts}
 use Rattle.base.proofs.Parts.{drop-replicate}
 use Rattle.element_text.specs.Text.{fitted}
@@ -32,7 +33,7 @@ module _ (text : List ℕ) (len n : ℕ) (full : length text ≡ 11) (e : n ≡ 
   pub text-spaced : (r : ℕ) (out : List ℕ) → Puts (replicate 11 0x20) 0 (take n text) r out → out ≡ fitted 11 0x20 (take len text)
   unfolding fitted put
   text-spaced r out p =
-      let w : out ≡ put (replicate 11 0x20) 0 (take n text) = p .room (omega (arith, text-length)) .now in
+      let w : out ≡ put (replicate 11 0x20) 0 (take n text) = puts-wrote p (omega (arith, text-length)) .now in
       let k : length (take len text) ≡ n = ap length same-text ∙ sym text-length in
       let c : take 11 (take len text) ≡ take n text = take-all 11 (take len text) (omega arith) ∙ same-text in
       let z : 0 + length (take n text) ≡ n = omega (arith, text-length) in
@@ -47,8 +48,8 @@ pub status-data : (text spaced zeros mid out : List ℕ) (r t : ℕ) → spaced 
 unfolding diagnostic put
 status-data text spaced zeros mid out r t e n z p q =
     let h : length zeros ≡ 24 = rw z in
-    let v : Wrote zeros 0 front r mid = p .room (omega arith) in
+    let v : Wrote zeros 0 front r mid = puts-wrote p (omega arith) in
     let m : mid ≡ front ++ replicate 19 0 = v .now ∙ rw z in
     let l : length mid ≡ 24 = rw m in
-    let w : out ≡ put mid r spaced = q .room (omega (arith, v .end)) .now in
+    let w : out ≡ put mid r spaced = puts-wrote q (omega (arith, v .end)) .now in
     w ∙ rw (v .end, m, n, e)

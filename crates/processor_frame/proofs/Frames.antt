@@ -12,7 +12,7 @@ use lib.Dec.{leb, ltb}
 use lib.ListN.{length, getD, take, drop, set, length-set, length-append, List·getD-eq-default}
 use lib.Seq.{drop-cons, getD-drop, length-take-le}
 use Rattle.base.specs.Put.{put, Wrote, Puts}
-use Rattle.base.proofs.Put.{put-none, put-cons, put-more, wrote-length, puts-full, puts-room, and-then}
+use Rattle.base.proofs.Put.{put-none, put-cons, put-more, wrote-length, puts-full, puts-room, and-then, puts-wrote}
 use Rattle.processor_spec.specs.Frame.{wellFormed, requester, body, cmd, framed}
 use Rattle.processor_spec.proofs.Tests.{and-r}
 use Rattle.processor_frame.specs.Reply.{replyTo}
@@ -79,7 +79,7 @@ module _ (c l : List ℕ) (n : ℕ) (hc : n ≤ length c) (hl : n ≤ length l) 
   id-length = sym (length-take-le n c hc)
 
   pub id-put : {m : List ℕ} {r : ℕ} → Puts l 0 (take n c) r m → Wrote l 0 (take n c) r m
-  id-put p = p .room (omega (arith, id-length))
+  id-put p = puts-wrote p (omega (arith, id-length))
 
   pub id-seven : n ≡ 7 → Wrote l 0 (take n c) 7 (set (set (set (set (set (set (set l 0 (getD c 0 0)) 1 (getD c 1 0)) 2 (getD c 2 0)) 3 (getD c 3 0)) 4 (getD c 4 0)) 5 (getD c 5 0)) 6 (getD c 6 0))
   unfolding stored loaded
@@ -151,7 +151,7 @@ module _ (c l bs : List ℕ) (status : ℕ) where
   unfolding replyTo
   no-reply ok g h =
       let w : wellFormed c ≡ false = sym g ∙ not-true ok h in
-      rw w (record { room = λ _. record { end = refl; now = sym (put-none l 0) }; full = λ k. absurd (omega arith) })
+      rw w (puts-room 0 refl (omega arith) (record { end = refl; now = sym (put-none l 0) }))
 
   module _ (n : ℕ) (e : n ≡ getD c 0 0) (ok : Bool) (g : ok ≡ wellFormed c) (h : not ok ≡ false) where
     pub reply-short : length l < n + 4 → Puts l 0 (replyTo c status bs) 0 l
@@ -168,6 +168,6 @@ module _ (c l bs : List ℕ) (status : ℕ) where
         let i : length (framed c status []) ≡ n + 4 + 0 = framed-length c bs status n e ok g h [] in
         let x : 0 + length (framed c status []) ≤ length l = omega arith in
         let lm : length m ≡ length l = wrote-length f x in
-        let v : Wrote m a bs r k = p .room (omega (arith, f .end)) in
+        let v : Wrote m a bs r k = puts-wrote p (omega (arith, f .end)) in
         let both : Wrote l 0 (framed c status bs) r k = subst (λ (s : List ℕ). Wrote l 0 s r k) (framed-more c status bs) (and-then f v x) in
         rw w (puts-room (n + 4 + length bs) (framed-length c bs status n e ok g h bs) (omega arith) both)

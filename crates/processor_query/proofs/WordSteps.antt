@@ -18,7 +18,8 @@ use Rattle.processor_params.specs.declared.WordStep.{WordStep}
 use Rattle.processor_params.specs.Header.{noHeader, headerBy, headerOf}
 use Rattle.processor_params.specs.Take.{placeOf, wordStep, addressAt}
 use Rattle.processor_query.specs.Query.{headerIn}
-use Rattle.processor_query.proofs.Behind.{Behind, behind-drop, behind-trans, Leaves, header-leaves}
+use Rattle.parser_spec.proofs.Behind.{Behind, behind-drop, behind-trans, Leaves}
+use Rattle.processor_query.proofs.Behind.{header-leaves}
 
 -- ---- a step
 module _ (s : List ℕ) (at : ℕ) (a : WordStep) where

@@ -8,7 +8,7 @@ use borrow.Author.Tests.{leb-true, leb-false, le-leb}
 use lib.Dec.{leb}
 use lib.ListN.{length}
 use Rattle.base.specs.Put.{Wrote, Puts}
-use Rattle.base.proofs.Put.{put-none}
+use Rattle.base.proofs.Put.{put-none, puts-wrote, puts-kept}
 use Rattle.processor_spec.specs.declared.Answered.the-variants as answered
 use Rattle.processor_spec.specs.declared.Done.{Done}
 use Rattle.processor_spec.specs.declared.Slc.{Slc}
@@ -39,12 +39,12 @@ told-there slc c bs reply reply′ status r p b = record { is = go (replyTo c st
         → Answers (record { answer = replied (cond t x []); effect = keeps }) slc [] reply (record { slc = slc; answered = answered.Reply r }) reply′
     go x p true e =
         let h : length x ≤ length reply = leb-true (length x) (length reply) e in
-        let v : Wrote reply 0 x r reply′ = p .room (omega arith) in
+        let v : Wrote reply 0 x r reply′ = puts-wrote p (omega arith) in
         let n : r ≡ length x = omega (arith, v .end) in
         record { done = ap (λ (z : ℕ). record { slc = slc; answered = answered.Reply z }) n; left = v .now }
     go x p false e =
         let h : length reply < length x = leb-false (length x) (length reply) e in
-        let v : (r ≡ 0) × (reply′ ≡ reply) = p .full (omega arith) in
+        let v : (r ≡ 0) × (reply′ ≡ reply) = puts-kept p (omega arith) in
         record { done = ap (λ (z : ℕ). record { slc = slc; answered = answered.Reply z }) (v .0); left = v .1 ∙ sym (put-none reply 0) }
 
 -- the reply is there where the command is well-formed and the reply memory has room for any

@@ -12,7 +12,7 @@ use lib.ListN.{length, take, drop, getD, length-append, length-drop, drop-of-len
 use lib.Seq.{drop-cons, take-all, take-nil}
 use Rattle.base.specs.Chars.{bytes}
 use Rattle.base.specs.Put.{put, Wrote, Puts}
-use Rattle.base.proofs.Put.{and-then, wrote-length}
+use Rattle.base.proofs.Put.{and-then, wrote-length, puts-wrote}
 use Rattle.reply_status_text.specs.declared.StatusText.{StatusText}
 use Rattle.reply_status_text.specs.declared.StatusText.the-variants as statusText·
 use Rattle.reply_status_text.specs.Texts.{textOf, Tells}
@@ -34,10 +34,10 @@ pub hex-laid : {l m k before : List ℕ} {at n r x y : ℕ} (b : ℕ) → at + l
 unfolding inHex
 hex-laid {l} {m} {k} {before} {at} {n} {r} {x} {y} b h ex ey p q =
     let s : length (inHex before b) ≡ length before + 3 = hex-length before b in
-    let w : Wrote l at before n m = p .room (omega arith) in
+    let w : Wrote l at before n m = puts-wrote p (omega arith) in
     let g : length m ≡ length l = wrote-length w (omega arith) in
     let e : n ≡ at + length before = w .end in
-    let v : Wrote m n (x ∷ y ∷ 41 ∷ []) r k = q .room (omega arith) in
+    let v : Wrote m n (x ∷ y ∷ 41 ∷ []) r k = puts-wrote q (omega arith) in
     rw (sym ex, sym ey) (and-then w v (omega arith))
 
 -- ---- what a call that has told something left

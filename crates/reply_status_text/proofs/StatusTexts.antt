@@ -9,6 +9,7 @@ use native.Mathlib.Omega.{arith}
 use borrow.Author.Tests.{lt-ltb, le-ltb, ne-eqb}
 use lib.Dec.{ltb}
 use lib.ListN.{length}
+use Rattle.base.proofs.Put.{puts-wrote}
 use Rattle.base.specs.Put.{Wrote, Puts}
 use Rattle.reply_status_text.specs.declared.StatusText.{StatusText}
 use Rattle.reply_status_text.specs.declared.StatusText.the-variants as statusText·
@@ -25,7 +26,7 @@ module _ (text l : List ℕ) where
       record { answer = rw t (ap statusText·.Written (w .end ∙ zero-add (length text))); memory = rw t (w .now) }
 
   pub put-told : {n : ℕ} {m : List ℕ} → 96 ≤ length l → length text ≤ 96 → Puts l 0 text n m → Tells (some text) l (statusText·.Written n) m
-  put-told h k w = told h (w .room (omega arith))
+  put-told h k w = told h (puts-wrote w (omega arith))
 
 -- ---- the text of a code
 pub row-told : (code : ℕ) (l m : List ℕ) (r : StatusText) (status : ℕ) (text : List ℕ) → status ≡ code → textIn texts code ≡ some text → Tells (some text) l r m → Tells (textOf status) l r m

@@ -7,7 +7,7 @@ use mathlib.Core.List.{List, [], _∷_}
 use lib.Dec.{eqb, ltb}
 use lib.ListN.{length}
 use Rattle.base.specs.Chars.{bytes}
-use Rattle.base.specs.Put.{put}
+use Rattle.base.specs.Outcome.{Outcome, refused, lays, left}
 use Rattle.reply_status_text.specs.declared.StatusText.{StatusText}
 use Rattle.reply_status_text.specs.declared.StatusText.the-variants as statusText·
 
@@ -34,14 +34,22 @@ textIn (row ∷ rows) status = cond (eqb (row .0) status) (some (row .1)) (textI
 unfoldable pub textOf : ℕ → Option (List ℕ)
 textOf status = textIn texts status
 
--- what a call answers that has this to say, and the memory that it leaves: "status text needs 96", no: 6
+-- what a call does that has a text to say: "status text needs 96", no: 6
+abbrev pub saying : List ℕ → List ℕ → Outcome
+saying text l = cond (ltb (length l) 96) (refused 6) (lays 0 text)
+
+-- what it answers, and the memory that it leaves; where there is no text, nothing is done
+abbrev pub statusOf : Outcome → StatusText
+statusOf (refused n) = statusText·.Refused n
+statusOf (lays at bs) = statusText·.Written (length bs)
+
 abbrev pub answerOf : Option (List ℕ) → List ℕ → StatusText
 answerOf none l = statusText·.Nothing
-answerOf (some text) l = cond (ltb (length l) 96) (statusText·.Refused 6) (statusText·.Written (length text))
+answerOf (some text) l = statusOf (saying text l)
 
 abbrev pub leftOf : Option (List ℕ) → List ℕ → List ℕ
 leftOf none l = l
-leftOf (some text) l = cond (ltb (length l) 96) l (put l 0 text)
+leftOf (some text) l = left (saying text l) l
 
 pub record Tells (text : Option (List ℕ)) (l : List ℕ) (r : StatusText) (l′ : List ℕ) : Type 0 where
   pub answer : r ≡ answerOf text l

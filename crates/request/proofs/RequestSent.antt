@@ -10,6 +10,7 @@ use borrow.Author.Tests.{le-leb, lt-leb, leb-true, eqb-true, not-true, not-false
 use lib.Dec.{leb, ltb, eqb}
 use lib.ListN.{length, length-append}
 use Rattle.base.specs.Put.{Wrote, Puts}
+use Rattle.base.proofs.Put.{puts-wrote}
 use Rattle.file_type.specs.declared.FileType.the-variants.{T, C}
 use Rattle.address_spec.specs.declared.Address.{Address}
 use Rattle.address_spec.specs.declared.Parsed.{Parsed}
@@ -17,7 +18,7 @@ use Rattle.address_spec.specs.declared.Parsed.the-variants as parsed
 use Rattle.address_spec.specs.Elements.{Elements, elementsOf}
 use Rattle.address_spec.specs.Spelling.{addressOf, orZero}
 use Rattle.address_spec.proofs.Ranges.{small}
-use Rattle.request_frame.specs.RequestFrame.{Lays, addressField, typed, typedLength}
+use Rattle.request_frame.specs.RequestFrame.{addressField, typed, typedLength}
 use Rattle.request_frame.specs.declared.Target.{Target}
 use Rattle.request_frame.specs.declared.Requestor.{Requestor}
 use Rattle.request_frame.proofs.Laid.{lays, then, short-length, field-most}
@@ -118,7 +119,7 @@ module _ (q : Requestor) (n : ℕ) (x : Address) {b : Bool} {l : List ℕ} (c : 
         let o : p ≡ s = o₂ ∙ ap (place (elementsOf x)) o₁ in
         let e : length (typed q n 0xA2 k s) ≡ typedLength s = subst (λ (z : Target). length (typed q n 0xA2 k z) ≡ typedLength z) o e₀ in
         let w′ : Puts l 0 (typed q n 0xA2 k s) t m = subst (λ (z : Target). Puts l 0 (typed q n 0xA2 k z) t m) o w in
-        let y′ : Wrote l 0 (typed q n 0xA2 k s) t m = w′ .room (omega arith) in
+        let y′ : Wrote l 0 (typed q n 0xA2 k s) t m = puts-wrote w′ (omega arith) in
         rw (← c, h, y .0, le-leb 27 (length l) r, y .1) (record { answer = ap (request.Built x) (y′ .end ∙ zero-add _); now = y′ .now })
 
 -- ---- write
@@ -145,7 +146,7 @@ module _ (v : WriteValue) (s : List ℕ) (q : Requestor) (n : ℕ) (x : Address)
           (record { answer = refl; now = refl })
 
       pub write-built : (k : ℕ) (tag : List ℕ) {a : Parsed} {p : Target} {m j : List ℕ} {i r t : ℕ} → z ≡ size.Is k → 284 ≤ length l → a ≡ addressOf tag → a ≡ parsed.Is x
-          → i ≡ lastAddress x → p ≡ place (elementsOf x) i → length (typed q n 0xAB k p) ≡ typedLength p → Puts l 0 (typed q n 0xAB k p) r m → Lays m r (supplied v s x) t j
+          → i ≡ lastAddress x → p ≡ place (elementsOf x) i → length (typed q n 0xAB k p) ≡ typedLength p → Puts l 0 (typed q n 0xAB k p) r m → Puts m r (supplied v s x) t j
           → Builds (writeAddress v s q n (length l) x) l (request.Built x t) j
       unfolding writeAddress writeData writeMessage
       write-built k tag {a} {p} {m} {j} {i} {r} {t} g o a₁ a₂ o₁ o₂ e₀ w w′ =
@@ -158,5 +159,5 @@ module _ (v : WriteValue) (s : List ℕ) (q : Requestor) (n : ℕ) (x : Address)
           let f₂ : length (typed q n 0xAB k at) ≡ typedLength at = subst (λ (z : Target). length (typed q n 0xAB k z) ≡ typedLength z) f e₀ in
           let f₃ : length (typed q n 0xAB k at ++ e) ≡ length (typed q n 0xAB k at) + length e = length-append (typed q n 0xAB k at) e in
           let w₁ : Puts l 0 (typed q n 0xAB k at) r m = subst (λ (z : Target). Puts l 0 (typed q n 0xAB k z) r m) f w in
-          let w₂ : Wrote l 0 (typed q n 0xAB k at ++ e) t j = then (lays w₁) w′ .room (omega arith) in
+          let w₂ : Wrote l 0 (typed q n 0xAB k at ++ e) t j = then (lays w₁) (lays w′) .room (omega arith) in
           rw (← c, h, ← c′, not-false u h′, z′ .0, le-leb 284 (length l) o, z′ .1) (record { answer = ap (request.Built x) (w₂ .end ∙ zero-add _); now = w₂ .now })

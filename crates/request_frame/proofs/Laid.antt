@@ -1,23 +1,28 @@
 -- The parts of a request, one after the other.
-use Prim.Native.Nat.{ℕ, _+_, _/_, _%_, _≤_, _<_}
-use mathlib.Core.Path.{_≡_, refl, ap, sym, _∙_, subst}
+use Prim.Native.Nat.{ℕ, _+_, _-_, _/_, _%_, _≤_, _<_}
+use mathlib.Core.Path.{_≡_, refl, ap, ap₂, sym, _∙_, subst}
 use mathlib.Core.Bool.{Bool, true, false, cond}
 use mathlib.Core.List.{List, [], _∷_, _++_}
 use native.Mathlib.Nat.{zero-add, mod-eq-of-lt}
 use native.Mathlib.Omega.{arith}
 use borrow.Author.Tests.{lt-ltb, le-ltb, ltb-true, ltb-false}
 use lib.Dec.{ltb}
-use lib.ListN.{length, length-append}
+use lib.ListN.{length, getD, length-append}
 use Rattle.base.specs.Numbers.{lowFirst}
 use Rattle.base.specs.Put.{Wrote, Puts}
 use Rattle.base.proofs.Numbers.{low-length}
-use Rattle.base.proofs.Put.{and-then, wrote-length, puts-room, puts-full}
-use Rattle.request_frame.specs.RequestFrame.{Lays, identity, commandHead, addressField, twoAddresses, threeAddresses, typed, typedLength}
+use Rattle.base.proofs.Parts.{two-of, four-of}
+use Rattle.base.proofs.Put.{and-then, wrote-length, puts-wrote, puts-room, puts-full}
+use Rattle.request_frame.specs.RequestFrame.{identity, commandHead, addressField, twoAddresses, threeAddresses, typed, typedLength}
 use Rattle.request_frame.specs.declared.Target.{Target}
 use Rattle.request_frame.specs.declared.Requestor.{Requestor}
 
+-- where there is room, `bs` was laid over `l` from `at` on
+pub record Lays (l : List ℕ) (at : ℕ) (bs : List ℕ) (r : ℕ) (l′ : List ℕ) : Type 0 where
+  pub room : at + length bs ≤ length l → Wrote l at bs r l′
+
 pub lays : {l m : List ℕ} {at r : ℕ} {bs : List ℕ} → Puts l at bs r m → Lays l at bs r m
-lays p = record { room = p .room }
+lays p = record { room = puts-wrote p }
 
 -- one part behind the other
 pub then : {l m k : List ℕ} {at r t : ℕ} {bs cs : List ℕ} → Lays l at bs r m → Lays m r cs t k → Lays l at (bs ++ cs) t k
@@ -61,30 +66,23 @@ module _ (n : ℕ) where
       go false e = let k : 3 ≡ length (addressField n) = long-length (ltb-false n 255 e) in omega arith
 
 module _ {l m : List ℕ} {at r : ℕ} (n : ℕ) where
-  pub field-short : n < 255 → Lays l at (lowFirst 1 n) r m → Lays l at (addressField n) r m
+  pub field-short : n < 255 → Puts l at (lowFirst 1 n) r m → Puts l at (addressField n) r m
   field-short h w = rw (short n h) w
 
-  pub field-long : {k : List ℕ} {t : ℕ} → 255 ≤ n → Lays l at (0xFF ∷ []) r m → Lays m r (lowFirst 2 n) t k → Lays l at (addressField n) t k
-  field-long h w v = rw (long n h) (then w v)
+  pub field-long : n < 65536 → 255 ≤ n → Puts l at (0xFF ∷ n % 256 ∷ n / 256 ∷ []) r m → Puts l at (addressField n) r m
+  unfolding lowFirst
+  field-long g h w = let e : n / 256 % 256 ≡ n / 256 = mod-eq-of-lt (omega arith) in rw (long n h) (rw e w)
 
 -- ---- the frame
-pub identity-laid : {l m k j : List ℕ} {r s t : ℕ} (q : Requestor)
-    → Lays l 0 (0x4B ∷ 0x02 ∷ 0x20 ∷ 0x67 ∷ 0x24 ∷ 0x01 ∷ 0x07 ∷ []) r m → Lays m r (q .vid) s k → Lays k s (q .vsn) t j → Lays l 0 (identity q) t j
-unfolding identity
-identity-laid q a b c = then a (then b c)
-
-pub command-laid : {l m j : List ℕ} {r t : ℕ} (q : Requestor) (cmd n : ℕ) → n < 65536
-    → Lays l 0 (identity q) r m → Lays m r (cmd ∷ 0x00 ∷ n % 256 ∷ n / 256 ∷ []) t j → Lays l 0 (commandHead q cmd n) t j
-unfolding commandHead lowFirst
-command-laid {l} {m} {j} {r} {t} q cmd n h a b =
+pub command-laid : {l m : List ℕ} {r : ℕ} (q : Requestor) (cmd n : ℕ) → length (q .vid) ≡ 2 → length (q .vsn) ≡ 4 → n < 65536
+    → Puts l 0 (0x4B ∷ 0x02 ∷ 0x20 ∷ 0x67 ∷ 0x24 ∷ 0x01 ∷ 0x07 ∷ getD (q .vid) 0 0 ∷ getD (q .vid) 1 0 ∷ getD (q .vsn) 0 0 ∷ getD (q .vsn) 1 0 ∷ getD (q .vsn) 2 0 ∷ getD (q .vsn) 3 0 ∷ cmd ∷ 0x00 ∷ n % 256 ∷ n / 256 ∷ []) r m
+    → Puts l 0 (commandHead q cmd n) r m
+unfolding commandHead identity lowFirst
+command-laid {l} {m} {r} q cmd n v w h p =
     let e : n / 256 % 256 ≡ n / 256 = mod-eq-of-lt (omega arith) in
-    then a (rw e b)
-
-pub two-laid : {l m k j i : List ℕ} {at r s t u : ℕ} (fnc size : ℕ) (p : Target)
-    → Lays l at (fnc ∷ size ∷ []) r m → Lays m r (addressField (p .file)) s k → Lays k s (p .code ∷ []) t j → Lays j t (addressField (p .element)) u i
-    → Lays l at (twoAddresses fnc size p) u i
-unfolding twoAddresses
-two-laid fnc size p a b c d = then a (then b (then c d))
+    subst (λ (x : List ℕ). Puts l 0 x r m)
+    (ap₂ (λ (x y : List ℕ). (0x4B ∷ 0x02 ∷ 0x20 ∷ 0x67 ∷ 0x24 ∷ 0x01 ∷ 0x07 ∷ []) ++ (x ++ y) ++ (cmd ∷ 0x00 ∷ n % 256 ∷ n / 256 ∷ [])) (sym (two-of (q .vid) v)) (sym (four-of (q .vsn) w))
+    ∙ rw e) p
 
 -- ---- lengths
 pub command-length : (q : Requestor) (cmd n : ℕ) → length (q .vid) ≡ 2 → length (q .vsn) ≡ 4 → length (commandHead q cmd n) ≡ 17
@@ -94,6 +92,25 @@ command-length q cmd n v w = simp (length-append, v, w, low-length)
 pub two-length : (fnc size : ℕ) (p : Target) → length (twoAddresses fnc size p) ≡ 3 + length (addressField (p .file)) + length (addressField (p .element))
 unfolding twoAddresses
 two-length fnc size p = simp length-append (omega arith)
+
+pub two-past : (fnc size : ℕ) (p : Target) {l : List ℕ} {at : ℕ} → length l < at → Puts l at (twoAddresses fnc size p) at l
+two-past fnc size p h = puts-full (length (twoAddresses fnc size p)) refl (omega arith)
+
+module _ (fnc size : ℕ) (p : Target) (f e : ℕ) (ef : (f ≡ length (addressField (p .file))) × (f ≤ 3)) (ee : (e ≡ length (addressField (p .element))) × (e ≤ 3)) where
+  two-count : length (twoAddresses fnc size p) ≡ 3 + f + e
+  two-count = two-length fnc size p ∙ rw (ef .0, ee .0)
+
+  module _ {l : List ℕ} {at : ℕ} where
+    pub two-short : at ≤ length l → length l - at < 3 + f + e → Puts l at (twoAddresses fnc size p) at l
+    two-short h g = puts-full (3 + f + e) two-count (omega arith)
+
+    pub two-laid : {m k j i : List ℕ} {r s t u : ℕ} → at ≤ length l → 3 + f + e ≤ length l - at
+        → Puts l at (fnc ∷ size ∷ []) r m → Puts m r (addressField (p .file)) s k → Puts k s (p .code ∷ []) t j → Puts j t (addressField (p .element)) u i
+        → Puts l at (twoAddresses fnc size p) u i
+    unfolding twoAddresses
+    two-laid {m} {k} {j} {i} {r} {s} {t} {u} h g a b c d =
+        let w : Lays l at (twoAddresses fnc size p) u i = then (lays a) (then (lays b) (then (lays c) (lays d))) in
+        puts-room (3 + f + e) two-count (omega arith) (w .room (rw two-count (omega arith)))
 
 module _ (q : Requestor) (n fnc size : ℕ) (p : Target) (v : length (q .vid) ≡ 2) (w : length (q .vsn) ≡ 4) where
   pub typed-length : length (typed q n fnc size p) ≡ typedLength p
@@ -105,10 +122,10 @@ module _ (q : Requestor) (n fnc size : ℕ) (p : Target) (v : length (q .vid) �
     typed-full {l} h = puts-full {l = l} {at = 0} k (typed-length ∙ sym e) (rw (zero-add k) h)
 
     pub typed-laid : {l m i j : List ℕ} {r s t : ℕ} → k ≤ length l
-        → Lays l 0 (commandHead q 0x0F n) r m → Lays m r (twoAddresses fnc size p) s i → Lays i s (addressField (p .sub)) t j
+        → Puts l 0 (commandHead q 0x0F n) r m → Puts m r (twoAddresses fnc size p) s i → Puts i s (addressField (p .sub)) t j
         → Puts l 0 (typed q n fnc size p) t j
     unfolding typed threeAddresses
     typed-laid {l} {m} {i} {j} {r} {s} {t} h a b c =
-        let w : Lays l 0 (typed q n fnc size p) t j = then a (then b c) in
+        let w : Lays l 0 (typed q n fnc size p) t j = then (lays a) (then (lays b) (lays c)) in
         let g : 0 + k ≤ length l = rw (zero-add k) h in
         puts-room {l = l} {at = 0} k (typed-length ∙ sym e) g (w .room (rw (typed-length, ← e) g))

@@ -1,18 +1,12 @@
 -- The frame of a request and the typed logical layouts (document 01, "Request bytes"; manual 1770-6.5.16).
-use Prim.Native.Nat.{ℕ, _+_, _≤_}
-use mathlib.Core.Path.{_≡_}
+use Prim.Native.Nat.{ℕ, _+_}
 use mathlib.Core.Bool.{cond}
 use mathlib.Core.List.{List, [], _∷_, _++_}
 use lib.Dec.{ltb}
 use lib.ListN.{length}
 use Rattle.base.specs.Numbers.{lowFirst}
-use Rattle.base.specs.Put.{Wrote}
 use Rattle.request_frame.specs.declared.Target.{Target}
 use Rattle.request_frame.specs.declared.Requestor.{Requestor}
-
--- where there is room, `bs` was laid over `l` from `at` on
-pub record Lays (l : List ℕ) (at : ℕ) (bs : List ℕ) (r : ℕ) (l′ : List ℕ) : Type 0 where
-  pub room : at + length bs ≤ length l → Wrote l at bs r l′
 
 -- "the default requester is 09 10 and 09 10 19 71"
 abbrev pub defaultRequestor : Requestor

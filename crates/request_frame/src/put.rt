@@ -1,8 +1,9 @@
-// The parts of a request, each laid from a place on. The answer is the place behind it.
+// The parts of a request, each laid from a place on where there is room for the whole of it. The answer is the place behind it.
 ghost use mathlib.Core.Path.{_≡_};
 ghost use Prim.Native.Nat.{_≤_};
 ghost use lib.ListN.{length};
-ghost use Rattle.request_frame.specs.RequestFrame.{Lays, addressField, identity as Frame·identity, commandHead, twoAddresses, typedLength};
+ghost use Rattle.base.specs.Put.{Puts};
+ghost use Rattle.request_frame.specs.RequestFrame.{addressField, commandHead, twoAddresses, typedLength};
 use crate::Requestor;
 use crate::Target;
 
@@ -21,40 +22,59 @@ pub fn typed_len(p: Target) -> usize
     20 + field_len(p.file) + field_len(p.element) + field_len(p.sub)
 }
 
+// An address below 255 in one byte, any other as FF and a word.
 pub fn address_field(out: &mut [u8], at: usize, n: u16) -> usize
-    ensures { λ r. ⌜ Lays (now (out .entry)) at (addressField n) r (now (out .exit)) ⌝ }
+    ensures { λ r. ⌜ Puts (now (out .entry)) at (addressField n) r (now (out .exit)) ⌝ }
 {
     if n < 255 {
         return base::put_number(out, at, 1, n as u64);
     }
-    let a = base::put_all(out, at, &[0xFF]);
-    base::put_number(out, a, 2, n as u64)
+    let low = (n % 256) as u8;
+    let high = (n / 256) as u8;
+    base::put_all(out, at, &[0xFF, low, high])
 }
 
-// The execute service on its object, and the requester.
-fn identity(out: &mut [u8], q: Requestor) -> usize
-    ensures { λ r. ⌜ Lays (now (out .entry)) 0 (Frame·identity q) r (now (out .exit)) ⌝ }
+// All in front of the function byte: the execute service on its object, the requester, CMD, STS 0 and the sequence number.
+pub fn command(out: &mut [u8], q: Requestor, cmd: u8, sequence: u16) -> usize
+    ensures { λ r. ⌜ Puts (now (out .entry)) 0 (commandHead q cmd sequence) r (now (out .exit)) ⌝ }
 {
     let vid = q.vid;
     let vsn = q.vsn;
-    let a = base::put_all(out, 0, &[0x4B, 0x02, 0x20, 0x67, 0x24, 0x01, 0x07]);
-    let b = base::put_all(out, a, &vid);
-    base::put_all(out, b, &vsn)
-}
-
-// All in front of the function byte.
-pub fn command(out: &mut [u8], q: Requestor, cmd: u8, sequence: u16) -> usize
-    ensures { λ r. ⌜ Lays (now (out .entry)) 0 (commandHead q cmd sequence) r (now (out .exit)) ⌝ }
-{
     let low = (sequence % 256) as u8;
     let high = (sequence / 256) as u8;
-    let a = identity(out, q);
-    base::put_all(out, a, &[cmd, 0x00, low, high])
+    let head = [
+        0x4B,
+        0x02,
+        0x20,
+        0x67,
+        0x24,
+        0x01,
+        0x07,
+        vid[0],
+        vid[1],
+        vsn[0],
+        vsn[1],
+        vsn[2],
+        vsn[3],
+        cmd,
+        0x00,
+        low,
+        high,
+    ];
+    base::put_all(out, 0, &head)
 }
 
+// Function, size, file number, file type and element.
 pub fn two_addresses(out: &mut [u8], at: usize, function: u8, size: u8, p: Target) -> usize
-    ensures { λ r. ⌜ Lays (now (out .entry)) at (twoAddresses function size p) r (now (out .exit)) ⌝ }
+    ensures { λ r. ⌜ Puts (now (out .entry)) at (twoAddresses function size p) r (now (out .exit)) ⌝ }
 {
+    let n = 3 + field_len(p.file) + field_len(p.element);
+    if out.len() < at {
+        return at;
+    }
+    if out.len() - at < n {
+        return at;
+    }
     let a = base::put_all(out, at, &[function, size]);
     let b = address_field(out, a, p.file);
     let c = base::put_all(out, b, &[p.code]);

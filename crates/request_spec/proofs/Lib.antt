@@ -1,2 +1,3 @@
 pub mod RequestQuestions
+pub mod RequestRows
 pub mod Supplied

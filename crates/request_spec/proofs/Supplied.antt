@@ -1,22 +1,25 @@
 -- Mask word and data.
-use Prim.Native.Nat.{ℕ, _+_, _-_, _≤_, _<_}
-use mathlib.Core.Path.{_≡_, refl, ap, sym, _∙_}
+use Prim.Native.Nat.{ℕ, _+_, _-_, _/_, _%_, _≤_, _<_}
+use mathlib.Core.Path.{_≡_, refl, ap, sym, subst, _∙_}
 use mathlib.Core.Bool.{Bool, true, false, _&&_, cond}
 use mathlib.Core.List.{List, [], _∷_, _++_}
+use native.Mathlib.Nat.{mod-eq-of-lt}
 use native.Mathlib.Omega.{arith}
 use borrow.Author.Tests.{le-leb, lt-leb, le-ltb}
 use lib.Dec.{leb, ltb, eqb}
-use lib.ListN.{length, length-append}
+use lib.ListN.{length, getD, length-append}
 use Rattle.base.specs.Masks.{bitMask}
 use Rattle.base.specs.Numbers.{lowFirst}
+use Rattle.base.specs.Put.{Wrote, Puts}
 use Rattle.base.proofs.Numbers.{low-length}
+use Rattle.base.proofs.Parts.{two-of}
+use Rattle.base.proofs.Put.{puts-room, puts-full}
 use Rattle.file_type.specs.Table.{row}
 use Rattle.element_text.specs.Text.{asciiText, stringText}
 use Rattle.element_text.proofs.Text as swap-text
 use Rattle.address_spec.specs.declared.Address.{Address}
 use Rattle.address_spec.specs.Spelling.{orZero}
-use Rattle.request_frame.specs.RequestFrame.{Lays}
-use Rattle.request_frame.proofs.Laid.{then}
+use Rattle.request_frame.proofs.Laid.{Lays, lays, then}
 use Rattle.request_spec.specs.SizeAnswers.{dataSizeOf}
 use Rattle.request_spec.specs.Request.{isAscii, bitData, textData, supplied}
 use Rattle.request_spec.specs.declared.WriteValue.{WriteValue}
@@ -39,7 +42,7 @@ module _ (s : List ℕ) (x : Address) {v : WriteValue} where
     pub raw-length : length s ≡ length (supplied v s x)
     raw-length = ap length (sym raw)
 
-    pub raw-laid : {l m : List ℕ} {at r : ℕ} → Lays l at s r m → Lays l at (supplied v s x) r m
+    pub raw-laid : {l m : List ℕ} {at r : ℕ} → Puts l at s r m → Puts l at (supplied v s x) r m
     raw-laid w = rw raw w
 
   module _ (b : Bool) (h : v ≡ value.Bool b) where
@@ -51,7 +54,7 @@ module _ (s : List ℕ) (x : Address) {v : WriteValue} where
     unfolding bitData
     bool-length = rw bool (simp (length-append, low-length))
 
-    pub bool-laid : {l m : List ℕ} {at r n : ℕ} → n ≡ orZero (x .«sub_element») → Lays l at (bitData n b) r m → Lays l at (supplied v s x) r m
+    pub bool-laid : {l m : List ℕ} {at r n : ℕ} → n ≡ orZero (x .«sub_element») → Puts l at (bitData n b) r m → Puts l at (supplied v s x) r m
     bool-laid e w = rw (bool, ← e) w
 
   module _ (h : v ≡ value.Text) {a : Bool} (e : a ≡ isAscii x) where
@@ -67,7 +70,7 @@ module _ (s : List ℕ) (x : Address) {v : WriteValue} where
     unfolding textData
     string-length g = rw (text, g) (simp (length-append, low-length, swap-text.string-length))
 
-    pub text-laid : {l m : List ℕ} {at r : ℕ} → Lays l at (textData a s) r m → Lays l at (supplied v s x) r m
+    pub text-laid : {l m : List ℕ} {at r : ℕ} → Puts l at (textData a s) r m → Puts l at (supplied v s x) r m
     text-laid w = rw text w
 
 -- ---- the size field
@@ -82,20 +85,43 @@ module _ {n k : ℕ} (e : n ≡ k) where
   well h g = rw (← e, le-leb _ _ h, le-leb _ _ g)
 
 -- ---- laid
-module _ {l m k : List ℕ} {at r t : ℕ} {b : Bool} {mask : ℕ} (n : ℕ) (e : mask ≡ bitMask n) (a : Lays l at (lowFirst 2 mask) r m) where
-  pub bit-set : b ≡ true → Lays m r (lowFirst 2 mask) t k → Lays l at (bitData n b) t k
-  unfolding bitData
-  bit-set h c = rw (h, ← e) (then a c)
+module _ {l m : List ℕ} {at r : ℕ} {b : Bool} {mask : ℕ} (n : ℕ) (e : mask ≡ bitMask n) (g : mask < 65536) where
+  pub bit-set : b ≡ true → Puts l at (mask % 256 ∷ mask / 256 ∷ mask % 256 ∷ mask / 256 ∷ []) r m → Puts l at (bitData n b) r m
+  unfolding bitData lowFirst
+  bit-set h w = let q : mask / 256 % 256 ≡ mask / 256 = mod-eq-of-lt (omega arith) in rw (h, ← e, q) w
 
-  pub bit-clear : b ≡ false → Lays m r (lowFirst 2 0) t k → Lays l at (bitData n b) t k
-  unfolding bitData
-  bit-clear h c = rw (h, ← e) (then a c)
+  pub bit-clear : b ≡ false → Puts l at (mask % 256 ∷ mask / 256 ∷ 0 ∷ 0 ∷ []) r m → Puts l at (bitData n b) r m
+  unfolding bitData lowFirst
+  bit-clear h w = let q : mask / 256 % 256 ≡ mask / 256 = mod-eq-of-lt (omega arith) in rw (h, ← e, q) w
 
-module _ {l m k : List ℕ} {at r t : ℕ} {b : Bool} (s : List ℕ) {d : List ℕ} (a : Lays l at (lowFirst 2 0xFFFF) r m) where
-  pub ascii-laid : b ≡ true → d ≡ asciiText s → Lays m r d t k → Lays l at (textData b s) t k
-  unfolding textData
-  ascii-laid h e c = rw (h, ← e) (then a c)
+module _ {l m : List ℕ} {at r : ℕ} {b : Bool} (s : List ℕ) where
+  pub ascii-laid : {d : List ℕ} → length d ≡ 2 → b ≡ true → d ≡ asciiText s → Puts l at (0xFF ∷ 0xFF ∷ getD d 0 0 ∷ getD d 1 0 ∷ []) r m → Puts l at (textData b s) r m
+  unfolding textData lowFirst
+  ascii-laid {d} n h e w =
+      let q : d ≡ getD d 0 0 ∷ getD d 1 0 ∷ [] = two-of d n in
+      rw (h, ← e) (subst (λ (x : List ℕ). Puts l at (0xFF ∷ 0xFF ∷ x) r m) (sym q) w)
 
-  pub string-laid : b ≡ false → d ≡ stringText s → Lays m r d t k → Lays l at (textData b s) t k
-  unfolding textData
-  string-laid h e c = rw (h, ← e) (then a c)
+  pub text-string : b ≡ false → Puts l at (textData false s) r m → Puts l at (textData b s) r m
+  text-string h w = rw h w
+
+-- text of ST
+string-count : (s : List ℕ) → length (textData false s) ≡ 86
+unfolding textData
+string-count s = simp (length-append, low-length, swap-text.string-length)
+
+string-is : (s d : List ℕ) → d ≡ stringText s → (0xFF ∷ 0xFF ∷ []) ++ d ≡ textData false s
+unfolding textData lowFirst
+string-is s d e = rw e
+
+module _ {l : List ℕ} {at : ℕ} (s : List ℕ) where
+  pub string-past : length l < at → Puts l at (textData false s) at l
+  string-past h = puts-full 86 (string-count s) (omega arith)
+
+  pub string-short : at ≤ length l → length l - at < 86 → Puts l at (textData false s) at l
+  string-short h g = puts-full 86 (string-count s) (omega arith)
+
+  pub string-laid : {m k d : List ℕ} {r t : ℕ} → at ≤ length l → 86 ≤ length l - at → d ≡ stringText s → Puts l at (0xFF ∷ 0xFF ∷ []) r m → Puts m r d t k → Puts l at (textData false s) t k
+  string-laid {m} {k} {d} {r} {t} h g e a c =
+      let w : Lays l at ((0xFF ∷ 0xFF ∷ []) ++ d) t k = then (lays a) (lays c) in
+      let q : (0xFF ∷ 0xFF ∷ []) ++ d ≡ textData false s = string-is s d e in
+      puts-room 86 (string-count s) (omega arith) (subst (λ (x : List ℕ). Wrote l at x t k) q (w .room (rw (ap length q, string-count s) (omega arith))))

@@ -11,10 +11,10 @@ use lib.ListN.{length, length-append}
 use Rattle.base.specs.Outcome.{Outcome, refused, lays, left}
 use Rattle.base.specs.Put.{Wrote, Puts}
 use Rattle.directory_sys0.specs.declared.Sys0Info.{Sys0Info}
-use Rattle.request_frame.specs.RequestFrame.{Lays, commandHead, addressField, twoAddresses}
+use Rattle.request_frame.specs.RequestFrame.{commandHead, addressField, twoAddresses}
 use Rattle.request_frame.specs.declared.Target.{Target}
 use Rattle.request_frame.specs.declared.Requestor.{Requestor}
-use Rattle.request_frame.proofs.Laid.{then, command-length, two-length, field-most}
+use Rattle.request_frame.proofs.Laid.{lays as where-room, then, command-length, two-length, field-most}
 use Rattle.request_untagged.specs.Requests.{Builds, sent, processorType, datalogRequestor, datalog, directorySize, directoryRead}
 use Rattle.request_untagged.specs.declared.Message.the-variants as message
 
@@ -22,29 +22,29 @@ pub none : (bs : List ℕ) {l : List ℕ} → length l < 27 → Builds (sent bs 
 unfolding sent
 none bs h = rw (lt-leb _ _ h) (record { answer = refl; now = refl })
 
-pub all : {l m k : List ℕ} {r t : ℕ} {bs cs : List ℕ} → length (bs ++ cs) ≤ 27 → 27 ≤ length l → Lays l 0 bs r m → Lays m r cs t k
+pub all : {l m k : List ℕ} {r t : ℕ} {bs cs : List ℕ} → length (bs ++ cs) ≤ 27 → 27 ≤ length l → Puts l 0 bs r m → Puts m r cs t k
     → Builds (sent (bs ++ cs) l) l (message.Written t) k
 unfolding sent
 all {l} {m} {k} {r} {t} {bs} {cs} n h a b =
-    let w : Wrote l 0 (bs ++ cs) t k = then a b .room (omega arith) in
+    let w : Wrote l 0 (bs ++ cs) t k = then (where-room a) (where-room b) .room (omega arith) in
     rw (le-leb _ _ h) (record { answer = ap message.Written (w .end ∙ zero-add _); now = w .now })
 
 module _ {l m k : List ℕ} {r t : ℕ} (q : Requestor) (n : ℕ) (v : length (q .vid) ≡ 2) (w : length (q .vsn) ≡ 4) where
-  behind : (cmd : ℕ) {cs : List ℕ} → length cs ≤ 10 → 27 ≤ length l → Lays l 0 (commandHead q cmd n) r m → Lays m r cs t k
+  behind : (cmd : ℕ) {cs : List ℕ} → length cs ≤ 10 → 27 ≤ length l → Puts l 0 (commandHead q cmd n) r m → Puts m r cs t k
       → Builds (sent (commandHead q cmd n ++ cs) l) l (message.Written t) k
   behind cmd {cs} s h a b = all (simp (length-append, command-length q cmd n v w) (omega arith)) h a b
 
-  pub processor-sent : 27 ≤ length l → Lays l 0 (commandHead q 0x06 n) r m → Lays m r (0x03 ∷ []) t k → Builds (processorType q n l) l (message.Written t) k
+  pub processor-sent : 27 ≤ length l → Puts l 0 (commandHead q 0x06 n) r m → Puts m r (0x03 ∷ []) t k → Builds (processorType q n l) l (message.Written t) k
   unfolding processorType
   processor-sent h a b = behind 0x06 (omega arith) h a b
 
-  pub size-sent : (info : Sys0Info) → 27 ≤ length l → Lays l 0 (commandHead q 0x0F n) r m
-      → Lays m r (0xA1 ∷ info .«size_len» ∷ 0x00 ∷ info .«file_type» ∷ info .«size_element» ∷ []) t k → Builds (directorySize info q n l) l (message.Written t) k
+  pub size-sent : (info : Sys0Info) → 27 ≤ length l → Puts l 0 (commandHead q 0x0F n) r m
+      → Puts m r (0xA1 ∷ info .«size_len» ∷ 0x00 ∷ info .«file_type» ∷ info .«size_element» ∷ []) t k → Builds (directorySize info q n l) l (message.Written t) k
   unfolding directorySize
   size-sent info h a b = behind 0x0F (omega arith) h a b
 
-  pub read-sent : (type offset size : ℕ) → offset ≤ 65535 → 27 ≤ length l → Lays l 0 (commandHead q 0x0F n) r m
-      → Lays m r (twoAddresses 0xA1 size (record { file = 0; code = type; element = offset; sub = 0 })) t k → Builds (directoryRead type offset size q n l) l (message.Written t) k
+  pub read-sent : (type offset size : ℕ) → offset ≤ 65535 → 27 ≤ length l → Puts l 0 (commandHead q 0x0F n) r m
+      → Puts m r (twoAddresses 0xA1 size (record { file = 0; code = type; element = offset; sub = 0 })) t k → Builds (directoryRead type offset size q n l) l (message.Written t) k
   unfolding directoryRead
   read-sent type offset size o h a b =
       let p : Target = record { file = 0; code = type; element = offset; sub = 0 } in
@@ -52,8 +52,8 @@ module _ {l m k : List ℕ} {r t : ℕ} (q : Requestor) (n : ℕ) (v : length (q
       let j : length (addressField 0) ≤ 3 = field-most 0 in
       rw (le-leb _ _ o) (behind 0x0F (rw (two-length 0xA1 size p) (omega arith)) h a b)
 
-pub datalog-sent : {l m k : List ℕ} {r t : ℕ} (queue : ℕ) → 27 ≤ length l → Lays l 0 (commandHead datalogRequestor 0x0F 0x30) r m
-    → Lays m r (0xA2 ∷ 0x6D ∷ 0x00 ∷ 0xA5 ∷ queue ∷ 0x00 ∷ []) t k → Builds (datalog queue l) l (message.Written t) k
+pub datalog-sent : {l m k : List ℕ} {r t : ℕ} (queue : ℕ) → 27 ≤ length l → Puts l 0 (commandHead datalogRequestor 0x0F 0x30) r m
+    → Puts m r (0xA2 ∷ 0x6D ∷ 0x00 ∷ 0xA5 ∷ queue ∷ 0x00 ∷ []) t k → Builds (datalog queue l) l (message.Written t) k
 unfolding datalog
 datalog-sent queue h a b = behind datalogRequestor 0x30 refl refl 0x0F (omega arith) h a b
 

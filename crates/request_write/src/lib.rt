@@ -1,10 +1,10 @@
 // Questions 4 and 5 of a write, its last address field, and its mask word and data in lent memory.
 ghost use mathlib.Core.Path.{_≡_};
-ghost use mathlib.Core.Bool.{_||_};
+ghost use mathlib.Core.Bool.{false, _||_};
 ghost use lib.Dec.{eqb};
 ghost use lib.ListN.{length};
 ghost use Rattle.base.specs.Masks.{bitMask};
-ghost use Rattle.request_frame.specs.RequestFrame.{Lays};
+ghost use Rattle.base.specs.Put.{Puts};
 ghost use Rattle.request_spec.specs.SizeAnswers.{dataSizeOf};
 ghost use Rattle.request_spec.specs.Request.{presetOrAccum, bitSuits, textSuits, suits as Request·suits, lastAddress, isAscii, bitData, textData, supplied};
 use address_spec::Address;
@@ -117,31 +117,44 @@ fn mask(n: u16) -> u16
 }
 
 fn put_bit(out: &mut [u8], at: usize, n: u16, b: bool) -> usize
-    ensures { λ r. ⌜ Lays (now (out .entry)) at (bitData n b) r (now (out .exit)) ⌝ }
+    ensures { λ r. ⌜ Puts (now (out .entry)) at (bitData n b) r (now (out .exit)) ⌝ }
 {
     let m = mask(n);
-    let a = base::put_number(out, at, 2, m as u64);
+    let low = (m % 256) as u8;
+    let high = (m / 256) as u8;
     if b {
-        return base::put_number(out, a, 2, m as u64);
+        return base::put_all(out, at, &[low, high, low, high]);
     }
-    base::put_number(out, a, 2, 0)
+    base::put_all(out, at, &[low, high, 0, 0])
 }
 
 fn put_text(out: &mut [u8], at: usize, ascii: bool, text: &[u8]) -> usize
-    ensures { λ r. ⌜ Lays (now (out .entry)) at (textData ascii (now (text .entry))) r (now (out .exit)) ⌝ }
+    ensures { λ r. ⌜ Puts (now (out .entry)) at (textData ascii (now (text .entry))) r (now (out .exit)) ⌝ }
 {
-    let a = base::put_number(out, at, 2, 0xFFFF);
     if ascii {
         let two = element_text::encode_pccc_ascii(text);
-        return base::put_all(out, a, &two);
+        return base::put_all(out, at, &[0xFF, 0xFF, two[0], two[1]]);
+    }
+    put_string(out, at, text)
+}
+
+fn put_string(out: &mut [u8], at: usize, text: &[u8]) -> usize
+    ensures { λ r. ⌜ Puts (now (out .entry)) at (textData false (now (text .entry))) r (now (out .exit)) ⌝ }
+{
+    if out.len() < at {
+        return at;
+    }
+    if out.len() - at < 86 {
+        return at;
     }
     let line = element_text::encode_pccc_string(text);
+    let a = base::put_all(out, at, &[0xFF, 0xFF]);
     base::put_all(out, a, &line)
 }
 
 // Mask word and data, as the value supplies them.
 pub fn put_data(out: &mut [u8], at: usize, v: WriteValue, bytes: &[u8], x: Address) -> usize
-    ensures { λ r. ⌜ Lays (now (out .entry)) at (supplied v (now (bytes .entry)) x) r (now (out .exit)) ⌝ }
+    ensures { λ r. ⌜ Puts (now (out .entry)) at (supplied v (now (bytes .entry)) x) r (now (out .exit)) ⌝ }
 {
     let sub = x.sub_element;
     match v {

@@ -4,7 +4,7 @@ use mir.Val.{vint, vcons, vnil}
 use denote.Builtin.{u8}
 use denote.Plain.{uint-tells, uint-lawful, uint-makes}
 use denote.Struct.Laws as LL
-use Rattle.processor_table.proofs.Surveying.{State, of-struct}
+use Rattle.processor_table.proofs.Walking.{State, of-struct}
 use Rattle.processor_element.proofs.Accessing.{Wanted}
 use Rattle.link_processor.proofs.SlcBuilt as B
 use Rattle.link_processor.proofs.SlcBuilt.Laws as B′

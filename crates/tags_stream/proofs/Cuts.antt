@@ -15,7 +15,7 @@ use Rattle.tags_line.specs.Lines.{lines, asked, answer, answers, tags}
 use Rattle.tags_stream.specs.Pieces.{ended, rest, last, held, keptBy, Calls, finished, fed, EveryCut}
 use Rattle.tags_stream.specs.declared.Line.{Line}
 use Rattle.tags_stream.proofs.Long.{asked-long, long-same}
-use Rattle.tags_stream.proofs.Onward.{kept-keeping}
+use Rattle.tags_stream.proofs.Onward.{kept-keeping, finish-wrote}
 
 -- all that is printed for what is still to come, behind a line so far
 abbrev from : List ℕ → List ℕ → List ℕ
@@ -147,7 +147,7 @@ wrote-front {l} {m} {bs} {r} w = ap (take r) (w .now) ∙ take-at bs (drop (0 + 
 
 calls : {line : Line} {input p : List ℕ} → Calls line input p → p ≡ from (keptBy line) input
 unfolding ended rest answers
-calls (finished {line} {out} {out′} {r} h f) = wrote-front (f .room h)
+calls (finished {line} {out} {out′} {r} h f) = wrote-front (finish-wrote h f)
 calls (fed {line} {out} {out′} {input} {p} {r} piece behind e f t) =
     let l = keptBy line in
     let a = take (r .taken) piece in

@@ -1,20 +1,20 @@
 -- Laws of the line machine: a byte, a piece, the end of the input.
 use Prim.Native.Nat.{ℕ, _+_, _-_, _*_, _/_, _≤_, _<_, min}
-use mathlib.Core.Path.{_≡_, refl, ap, sym, subst, _∙_}
+use mathlib.Core.Path.{_≡_, refl, ap, ap₂, sym, subst, _∙_}
 use mathlib.Core.List.{List, [], _∷_, _++_}
-use mathlib.Core.Bool.{Bool, true, false}
+use mathlib.Core.Bool.{Bool, true, false, cond}
 use lib.Dec.{leb}
 use native.Mathlib.Numerals.{add-one}
 use native.Mathlib.Nat.{zero-add, add-zero}
 use native.Mathlib.Omega.{arith}
 use lib.ListN.{length, take, drop, getD, set, replicate, length-take, drop-of-length-le}
 use lib.Seq.{take-suc-set, length-take-le, take-all}
-use borrow.Author.Tests.{eq-eqb, ne-eqb, leb-true, leb-false}
-use Rattle.base.specs.Put.{put, Wrote, Puts}
+use borrow.Author.Tests.{eq-eqb, ne-eqb, leb-true, leb-false, le-leb, lt-leb}
+use Rattle.base.specs.Put.{put, Wrote, Laid, laid, Puts}
 use Rattle.base.proofs.Parts.{drop-next}
-use Rattle.base.proofs.Put.{and-then, put-none, put-first}
+use Rattle.base.proofs.Put.{and-then, put-none, put-first, puts-wrote}
 use Rattle.tags_line.specs.Lines.{asked, answer, answers}
-use Rattle.tags_stream.specs.Pieces.{ended, rest, last, held, keeping, keptBy, Feeds, Finishes}
+use Rattle.tags_stream.specs.Pieces.{ended, rest, last, held, keeping, keptBy, Feeds, finishOf, Finishes}
 use Rattle.tags_line.specs.Answered.{Answered}
 use Rattle.tags_stream.specs.FeedSteps.{Onward, Stepped, Ran}
 use Rattle.tags_stream.specs.declared.Line.{Line}
@@ -68,7 +68,7 @@ module _ (b : ℕ) (bytes out : List ℕ) (n u : ℕ) (room : u + 64 ≤ length 
   pub step-line : {out′ : List ℕ} {next : ℕ} → b ≡ 10 → Answered (take n bytes) out u next out′ → Stepped b bytes n out u (record { kept = 0; used = next }) bytes out′
   step-line {out′} {next} h a =
       let k : u + length (answer (asked (take n bytes))) ≤ length out = omega (arith, a .most) in
-      let w : Wrote out u (answer (asked (take n bytes))) next out′ = a .lays .room k in
+      let w : Wrote out u (answer (asked (take n bytes))) next out′ = puts-wrote (a .puts) k in
       record {
         holds = omega arith;
         most = omega (arith, w .end, a .most);
@@ -128,6 +128,10 @@ module _ (piece bytes₀ out₀ bytes out : List ℕ) (n i : ℕ) (w : Went) whe
         keeps = sym (take-all 256 (take (w .kept) bytes) (simp length-take (omega arith))) ∙ b .keeps;
       }
 
+same-both : {A : Type 0} (a : A) (b : Bool) → a ≡ cond b a a
+same-both a true = refl
+same-both a false = refl
+
 -- ---- a line
 pub keeping-none : _≡_ {A = Line} (record { bytes = replicate 256 0; kept = 0 }) (keeping [])
 unfolding held put
@@ -136,7 +140,7 @@ keeping-none = refl
 pub keeping-is : {m : List ℕ} {r : ℕ} (l : List ℕ) → length l ≤ 256 → Puts (replicate 256 0) 0 l r m → _≡_ {A = Line} (record { bytes = m; kept = r }) (keeping l)
 unfolding held
 keeping-is {m} {r} l h p =
-    let w : Wrote (replicate 256 0) 0 l r m = p .room (omega arith) in
+    let w : Wrote (replicate 256 0) 0 l r m = puts-wrote p (omega arith) in
     let e : take 256 l ≡ l = take-all 256 l h in
     rw (e, w .now, w .end, zero-add (length l))
 
@@ -196,28 +200,35 @@ module _ (line : Line) (len : length (line .bytes) ≡ 256) (n : ℕ) (e : n ≡
       }
 
   pub finish-none : (out : List ℕ) → n ≡ 0 → Finishes line out 0 out
-  unfolding last
+  unfolding finishOf last
   finish-none out z =
       let k : line .kept ≡ 0 = omega arith in
       let g : keptBy line ≡ [] = ap (λ (i : ℕ). take i (line .bytes)) k in
       record {
-        room = λ _. rw g (record { end = refl; now = sym (put-none out 0) });
-        full = λ _. (refl, refl);
+        is = rw (g, put-none out 0) (same-both (laid 0 out) (leb 64 (length out)));
         fits = omega arith;
         counts = refl;
       }
 
   pub finish-answer : {out out′ : List ℕ} {r : ℕ} → (n ≡ 0 → ⊥) → 64 ≤ length out → length out′ ≡ length out → Answered (take n (line .bytes)) out 0 r out′ → Finishes line out r out′
+  unfolding finishOf
   finish-answer {out} {out′} {r} z h lo a =
-      let w : Wrote out 0 (answer (asked (take n (line .bytes)))) r out′ = a .lays .room (omega (arith, a .most)) in
+      let w : Wrote out 0 (answer (asked (take n (line .bytes)))) r out′ = puts-wrote (a .puts) (omega (arith, a .most)) in
       let k : r ≤ length out′ = omega (arith, w .end, a .most) in
       let g : answer (asked (take n (line .bytes))) ≡ last (keptBy line) = last-some (take n (line .bytes)) (λ y. z (counts n (line .bytes) lent-fits ∙ y)) ∙ ap last lent in
       record {
-        room = λ _. subst (λ (x : List ℕ). Wrote out 0 x r out′) g w;
-        full = λ y. absurd (omega arith);
+        is = rw (le-leb 64 (length out) h) (ap₂ laid (w .end ∙ zero-add _ ∙ ap length g) (w .now ∙ ap (put out 0) g));
         fits = k;
         counts = counts r out′ k;
       }
 
 pub finish-short : (line : Line) (out : List ℕ) → length out < 64 → Finishes line out 0 out
-finish-short line out h = record { room = λ y. absurd (omega arith); full = λ _. (refl, refl); fits = omega arith; counts = refl }
+unfolding finishOf
+finish-short line out h = record { is = rw (lt-leb 64 (length out) h); fits = omega arith; counts = refl }
+
+-- where the output has 64 bytes, it was written
+pub finish-wrote : {line : Line} {out out′ : List ℕ} {r : ℕ} → 64 ≤ length out → Finishes line out r out′ → Wrote out 0 (last (keptBy line)) r out′
+unfolding finishOf
+finish-wrote {line} {out} {out′} {r} h f =
+    let e : laid r out′ ≡ laid (length (last (keptBy line))) (put out 0 (last (keptBy line))) = f .is ∙ rw (le-leb 64 (length out) h) in
+    record { end = ap (λ (x : Laid). x .end) e ∙ sym (zero-add _); now = ap (λ (x : Laid). x .memory) e }

@@ -1,11 +1,11 @@
 -- The same by pieces of the input, in bounded memory: what a piece prints, and what is kept of the line that goes on behind it.
-use Prim.Native.Nat.{ℕ, _/_, _≤_, _<_, min}
+use Prim.Native.Nat.{ℕ, _/_, _≤_, min}
 use mathlib.Core.Path.{_≡_}
 use mathlib.Core.List.{List, [], _∷_, _++_}
 use mathlib.Core.Bool.{cond}
-use lib.Dec.{eqb}
+use lib.Dec.{leb, eqb}
 use lib.ListN.{length, take, drop, replicate}
-use Rattle.base.specs.Put.{put, Wrote}
+use Rattle.base.specs.Put.{put, Wrote, Laid, laid}
 use Rattle.tags_line.specs.Lines.{asked, answer, answers, tags}
 use Rattle.tags_stream.specs.declared.Line.{Line}
 use Rattle.tags_stream.specs.declared.Fed.{Fed}
@@ -46,9 +46,11 @@ pub record Feeds (line : Line) (piece out : List ℕ) (r : Fed) (out′ : List �
   pub counts : r .used ≡ length (take (r .used) out′)
 
 -- `finish`: the answer to a line that the end of the input ends; nothing where the output has not 64 bytes
+unfoldable pub finishOf : Line → List ℕ → Laid
+finishOf line out = cond (leb 64 (length out)) (laid (length (last (keptBy line))) (put out 0 (last (keptBy line)))) (laid 0 out)
+
 pub record Finishes (line : Line) (out : List ℕ) (r : ℕ) (out′ : List ℕ) : Type 0 where
-  pub room : 64 ≤ length out → Wrote out 0 (last (keptBy line)) r out′
-  pub full : length out < 64 → (r ≡ 0) × (out′ ≡ out)
+  pub is : laid r out′ ≡ finishOf line out
   pub fits : r ≤ length out′
   pub counts : r ≡ length (take r out′)
 

@@ -2,3 +2,4 @@ pub mod Avoided
 pub mod ClosedFiles
 pub mod Calls
 pub mod AvoidedRows
+pub mod WhoAvoids

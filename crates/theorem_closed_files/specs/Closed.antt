@@ -1,7 +1,7 @@
 -- Demand 3: nobody who sends only commands that avoid a closed file can learn or change a byte of it (document 01 (e)).
 use Prim.Native.Nat.{ℕ}
 use mathlib.Core.Path.{_≡_}
-use mathlib.Core.Bool.{Bool, true, false, not, _&&_, _||_}
+use mathlib.Core.Bool.{Bool, true, false, not, _&&_, _||_, cond}
 use mathlib.Core.List.{List, [], _∷_, map}
 use mathlib.Core.Option.{Option, none, some}
 use lib.Dec.{eqb}
@@ -46,6 +46,14 @@ avoidsIn closed code (fn ∷ p) = not (eqb code 0x0F) || avoidsBy closed fn p
 -- "in a 0x0F command not refused with 18"
 unfoldable pub avoids : (ℕ → Bool) → List ℕ → Bool
 avoids closed c = not (wellFormed c) || avoidsIn closed (cmd c) (function c)
+
+-- the file place of a command, where it has one: not where it is refused with 18, isn't a 0x0F command, or is cut before that address ends
+abbrev pub placeBehind : List ℕ → Option ℕ
+placeBehind [] = none
+placeBehind (fn ∷ p) = filePlace p
+
+unfoldable pub filePlaceOf : List ℕ → Option ℕ
+filePlaceOf c = cond (wellFormed c && eqb (cmd c) 0x0F) (placeBehind (function c)) none
 
 unfoldable pub allAvoid : (ℕ → Bool) → List Call → Bool
 allAvoid closed [] = true

@@ -1,5 +1,5 @@
 use Rattle.address_spec.specs.Spelling.{fileBefore}
-use Rattle.address_spec.proofs.FormReaders.{forms}
+use Rattle.address_spec.proofs.FormReaders.{phrases}
 use borrow.Author.Needs.{needs}
 use Rattle.address_phrases.proofs.file_then.Statement.{statement}
 use Rattle.address_phrases.proofs.file_then.Tie as tie
@@ -12,9 +12,9 @@ file-then-spec =
     (λ c κs. search needs)
     (λ c. search needs)
     (λ c. search needs)
-    (λ c. search (forms, needs))
+    (λ c. search (phrases, needs))
     (λ c κs. search needs)
     (λ c. search needs)
     (λ c. search needs)
-    (λ c. search (forms, needs))
-    (λ c. search (forms, needs)))
+    (λ c. search (phrases, needs))
+    (λ c. search (phrases, needs)))

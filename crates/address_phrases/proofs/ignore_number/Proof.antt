@@ -1,5 +1,5 @@
 use Rattle.address_spec.proofs.Forms.{ignored-none, ignored-some}
-use Rattle.address_spec.proofs.FormReaders.{forms}
+use Rattle.address_spec.proofs.FormReaders.{phrases}
 use borrow.Author.Needs.{needs}
 use Rattle.address_phrases.proofs.ignore_number.Statement.{statement}
 use Rattle.address_phrases.proofs.ignore_number.Tie as tie
@@ -9,9 +9,9 @@ ignore-number-spec =
     tie.close
     (tie.spec
     (λ c κs. search needs)
-    (λ c. search (forms, ignored-none, needs))
+    (λ c. search (phrases, ignored-none, needs))
     (λ c κs. search needs)
     (λ c. search needs)
     (λ c. search needs)
-    (λ c. search (forms, ignored-some, needs))
-    (λ c. search (forms, ignored-some, needs)))
+    (λ c. search (phrases, ignored-some, needs))
+    (λ c. search (phrases, ignored-some, needs)))

@@ -1,4 +1,4 @@
-use Rattle.address_spec.proofs.FormReaders.{forms}
+use Rattle.address_spec.proofs.FormReaders.{phrases}
 use borrow.Author.Needs.{needs}
 use Rattle.address_phrases.proofs.lfbn_letter.Statement.{statement}
 use Rattle.address_phrases.proofs.lfbn_letter.Tie as tie
@@ -9,18 +9,18 @@ lfbn-letter-spec =
     (tie.spec
     (λ c κs. search needs)
     (λ c. search needs)
-    (λ c. search (forms, needs) depth 8)
+    (λ c. search (phrases, needs) depth 8)
     (λ c. search needs)
     (λ c κs. search needs)
     (λ c. search needs)
-    (λ c. search (forms, needs) depth 8)
+    (λ c. search (phrases, needs) depth 8)
     (λ c. search needs)
     (λ c κs. search needs)
     (λ c. search needs)
-    (λ c. search (forms, needs) depth 8)
+    (λ c. search (phrases, needs) depth 8)
     (λ c. search needs)
     (λ c κs. search needs)
     (λ c. search needs)
-    (λ c. search (forms, needs) depth 8)
+    (λ c. search (phrases, needs) depth 8)
     (λ c. search needs)
-    (λ c. search (forms, needs) depth 8))
+    (λ c. search (phrases, needs) depth 8))

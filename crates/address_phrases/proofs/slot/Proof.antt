@@ -1,5 +1,5 @@
 use Rattle.address_spec.specs.Spelling.{slot}
-use Rattle.address_spec.proofs.FormReaders.{forms}
+use Rattle.address_spec.proofs.FormReaders.{phrases}
 use borrow.Author.Needs.{needs}
 use Rattle.address_phrases.proofs.slot.Statement.{statement}
 use Rattle.address_phrases.proofs.slot.Tie as tie
@@ -12,13 +12,13 @@ slot-spec =
     (λ c κs. search needs)
     (λ c. search needs)
     (λ c. search needs)
-    (λ c. search (forms, needs))
+    (λ c. search (phrases, needs))
     (λ c κs. search needs)
     (λ c. search needs)
     (λ c. search needs)
-    (λ c. search (forms, needs))
+    (λ c. search (phrases, needs))
     (λ c κs. search needs)
     (λ c. search needs)
     (λ c. search needs)
-    (λ c. search (forms, needs))
-    (λ c. search (forms, needs)))
+    (λ c. search (phrases, needs))
+    (λ c. search (phrases, needs)))

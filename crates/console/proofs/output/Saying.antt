@@ -10,7 +10,7 @@ use lib.Seq.{length-take-le, drop-at, drop-drop, drop-append-le, take-add, take-
 use mir.Syntax.{w64}
 use mir.Val.{Fits}
 use Rattle.base.specs.Put.{Wrote, Puts}
-use Rattle.base.proofs.Put.{and-then, put-front, put-none, wrote-length}
+use Rattle.base.proofs.Put.{and-then, put-front, put-none, wrote-length, puts-wrote}
 use Rattle.text.specs.Hex.{digit, hex}
 use Rattle.decimal.specs.Decimals.{decimal}
 use Rattle.decimal.proofs.Decimals.{decimal-length}
@@ -29,7 +29,7 @@ module _ (out : List ℕ) (p : Pending) (bs : List ℕ) where
   pub said-room : {out′ : List ℕ} {r : ℕ} → p .at ≤ length out → length bs ≤ length out - p .at → Puts out (p .at) bs r out′ → Said out p bs (record { at = r; good = p .good }) out′
   said-room {out′} {r} h g w =
       let n : p .at + length bs ≤ length out = omega arith in
-      let v = w .room n in
+      let v = puts-wrote w n in
       let f : r ≤ length out′ = omega (arith, v .end, wrote-length v n) in
       record {
         fits = f;
@@ -47,7 +47,7 @@ module _ (out : List ℕ) (p : Pending) (bs : List ℕ) where
   pub said-alone : {out′ : List ℕ} {r : ℕ} {t : Bool} → length out < p .at + length bs → length bs ≤ length out → (p .good ≡ false → t ≡ false) → Puts out 0 bs r out′ → Said out p bs (record { at = r; good = t }) out′
   said-alone {out′} {r} h g s w =
       let n : 0 + length bs ≤ length out = omega arith in
-      let v = w .room n in
+      let v = puts-wrote w n in
       let f : r ≤ length out′ = omega (arith, v .end, wrote-length v n) in
       record {
         fits = f;
@@ -101,7 +101,7 @@ said-then {out} {out′} {out″} {p} {q} {r} {cs} {bs} len a b =
 -- ---- a text that was laid in an array of its own
 module _ (t x bs : List ℕ) (e : ℕ) (w : Puts t 0 bs e x) (h : length bs ≤ length t) where
   laid : Wrote t 0 bs e x
-  laid = w .room (omega arith)
+  laid = puts-wrote w (omega arith)
 
   pub laid-fits : e ≤ length x
   laid-fits = omega (arith, laid .end, wrote-length laid (omega arith))

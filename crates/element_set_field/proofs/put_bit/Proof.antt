@@ -14,4 +14,4 @@ put-bit-spec =
     (λ c. search needs)
     (λ c κs. search needs)
     (λ c. search needs)
-    (λ c h. search (bit-stored, h, needs)))
+    (λ c. search (bit-stored, needs)))

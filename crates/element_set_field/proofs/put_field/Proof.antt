@@ -8,7 +8,7 @@ sub-put-bit : tie.Need-sub-put-bit
 sub-put-bit c =
     let p = c .before .before .before .before .pre in
     let f = c .before .f2 .given in
-    omega (arith, p .bit (f .0 .0) (f .1))
+    omega (arith, p .0 .bit (f .0 .0) (f .1))
 
 pub put-field-spec : {M : Type 1} → statement M
 put-field-spec =
@@ -24,8 +24,8 @@ put-field-spec =
     sub-put-bit
     (λ c κs. search needs)
     (λ c κs. search needs)
-    (λ c h. search (field-unknown, needs))
+    (λ c. search (field-unknown, needs))
     (λ c. search needs)
-    (λ c h. search (field-word, h, needs))
+    (λ c. search (field-word, needs))
     (λ c. search needs)
-    (λ c h. search (field-bit, h, needs)))
+    (λ c. search (field-bit, needs)))

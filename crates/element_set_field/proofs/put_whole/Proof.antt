@@ -1,4 +1,4 @@
-use Rattle.element_set_field.proofs.SetField.{whole-out, whole-in}
+use Rattle.element_set_field.proofs.SetField.{whole-out, whole-in, no-place, cut-off}
 use borrow.Author.Needs.{needs}
 use Rattle.element_set_field.proofs.put_whole.Statement.{statement}
 use Rattle.element_set_field.proofs.put_whole.Tie as tie
@@ -7,10 +7,13 @@ pub put-whole-spec : {M : Type 1} → statement M
 put-whole-spec =
     tie.close
     (tie.spec
+    (λ c. search (no-place, needs))
+    (λ c. search needs)
+    (λ c. search (cut-off, needs))
     (λ c κs. search needs)
     (λ c. search needs)
     (λ c. search needs)
-    (λ c h. search (whole-out, needs))
+    (λ c. search (whole-out, needs))
     (λ c κs. search needs)
     (λ c. search needs)
-    (λ c h. search (whole-in, h, needs)))
+    (λ c. search (whole-in, needs)))

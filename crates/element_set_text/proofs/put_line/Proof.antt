@@ -1,4 +1,5 @@
 use Rattle.element_set_text.proofs.SetText.{line-long, line-stored}
+use Rattle.element_spec.proofs.ElementStores.{too-few}
 use borrow.Author.Needs.{needs}
 use Rattle.element_set_text.proofs.put_line.Statement.{statement}
 use Rattle.element_set_text.proofs.put_line.Tie as tie
@@ -7,9 +8,10 @@ pub put-line-spec : {M : Type 1} → statement M
 put-line-spec =
     tie.close
     (tie.spec
-    (λ c h. search (line-long, needs))
+    (λ c. search (too-few, needs))
+    (λ c. search (line-long, needs))
     (λ c κs. search needs)
     (λ c. search needs)
     (λ c κs. search needs)
     (λ c. search needs)
-    (λ c h. search (line-stored, h, needs)))
+    (λ c. search (line-stored, needs)))

@@ -3,7 +3,7 @@ use mathlib.Core.Path.{refl}
 use contract.Running.{givenOf, tables, tablesOf}
 use denote.Triple.Spec.{tripleOf}
 use denote.Triple.Table.{entered, cited}
-use Rattle.processor_table.proofs.Surveying.{Bounds}
+use Rattle.processor_table.proofs.TableLoop.{Bounds}
 use Rattle.base.proofs.least.Symbol as bound-def
 use Rattle.base.proofs.least.Symbol.{name as #base·least}
 use Rattle.base.proofs.least.Met as bound-thm

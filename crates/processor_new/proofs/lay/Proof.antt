@@ -12,7 +12,7 @@ use Rattle.processor_build_spec.specs.Plans.{recordOf, stored, laidOf}
 use Rattle.processor_build.proofs.record_of.Symbol as make-def
 use Rattle.processor_build.proofs.record_of.Symbol.{name as #processor-build·record-of}
 use Rattle.processor_build.proofs.record_of.Met as make-thm
-use Rattle.processor_table.proofs.Surveying.{Bounds}
+use Rattle.processor_table.proofs.TableLoop.{Bounds}
 use Rattle.base.proofs.least.Symbol as bound-def
 use Rattle.base.proofs.least.Symbol.{name as #base·least}
 use Rattle.base.proofs.least.Met as bound-thm

@@ -14,7 +14,7 @@ use Rattle.processor_build.proofs.judge.Met as judge-thm
 use Rattle.processor_build.proofs.finish.Symbol as finish-def
 use Rattle.processor_build.proofs.finish.Symbol.{name as #processor-build·finish}
 use Rattle.processor_build.proofs.finish.Met as finish-thm
-use Rattle.processor_table.proofs.Surveying.{State, of-struct}
+use Rattle.processor_table.proofs.Walking.{State, of-struct}
 use Rattle.processor_walks.proofs.LayRecords.{Lays}
 use Rattle.processor_new.proofs.NewMeets.{Said, Owes, Fits, Judges, Finishes, new-meets}
 use Rattle.processor_new.proofs.lay.Symbol as lay-def

@@ -4,7 +4,9 @@ use denote.Triple.Table.{entered, cited}
 use contract.Running.{givenOf, tables, tablesOf}
 use Rattle.processor_table.specs.SurveySteps.{begunOf, passedOf, concludedOf}
 use Rattle.processor_table.specs.Survey.{surveyOf}
-use Rattle.processor_table.proofs.Surveying.{State, of-struct, Bounds, Begins, Steps, Ends, fold-meets}
+use Rattle.processor_table.proofs.Walking.{State, of-struct}
+use Rattle.processor_table.proofs.TableLoop.{Bounds}
+use Rattle.processor_table.proofs.Surveying.{Begins, Steps, Ends, fold-meets}
 use Rattle.processor_table.proofs.SurveyRight.{survey-right}
 use Rattle.processor_table.proofs.Pass as P
 use Rattle.processor_table.proofs.Pass.Laws as P′

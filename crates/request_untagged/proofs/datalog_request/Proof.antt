@@ -1,4 +1,3 @@
-use Rattle.request_frame.proofs.Laid.{lays}
 use Rattle.request_untagged.proofs.UntaggedSent.{datalog-none, datalog-sent}
 use borrow.Author.Needs.{needs}
 use Rattle.request_untagged.proofs.datalog_request.Statement.{statement}
@@ -8,7 +7,7 @@ sent : tie.Need-returns-2
 sent c =
     let p = c .before .before in
     let k = p .before .before .before .before .before in
-    datalog-sent _ (k .before .before .if1 .left) (k .command .ensures) (lays (p .put-all .ensures))
+    datalog-sent _ (k .before .before .if1 .left) (k .command .ensures) (p .put-all .ensures)
 
 pub datalog-request-spec : {M : Type 1} → statement M
 datalog-request-spec =

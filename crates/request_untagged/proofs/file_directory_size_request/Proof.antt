@@ -1,4 +1,3 @@
-use Rattle.request_frame.proofs.Laid.{lays}
 use Rattle.request_untagged.proofs.UntaggedSent.{size-none, size-sent}
 use borrow.Author.Needs.{needs}
 use Rattle.request_untagged.proofs.file_directory_size_request.Statement.{statement}
@@ -13,4 +12,4 @@ file-directory-size-request-spec =
     (λ c. search needs)
     (λ c κs. search needs)
     (λ c. search needs)
-    (λ c. search (size-sent, lays, needs)))
+    (λ c. search (size-sent, needs)))

@@ -1,4 +1,3 @@
-use Rattle.request_frame.proofs.Laid.{lays}
 use Rattle.request_untagged.proofs.UntaggedSent.{processor-none, processor-sent}
 use borrow.Author.Needs.{needs}
 use Rattle.request_untagged.proofs.processor_type_request.Statement.{statement}
@@ -9,7 +8,7 @@ sent c =
     let p = c .before .before in
     let k = p .before .before .before .before .before in
     let g = k .before .before .before .before .good in
-    processor-sent _ _ (search (g, needs)) (search (g, needs)) (k .before .before .if1 .left) (k .command .ensures) (lays (p .put-all .ensures))
+    processor-sent _ _ (search (g, needs)) (search (g, needs)) (k .before .before .if1 .left) (k .command .ensures) (p .put-all .ensures)
 
 pub processor-type-request-spec : {M : Type 1} → statement M
 processor-type-request-spec =

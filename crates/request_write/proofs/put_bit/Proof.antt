@@ -1,5 +1,4 @@
-use Rattle.request_frame.proofs.Laid.{lays}
-use Rattle.request_spec.proofs.Supplied.{bit-clear, bit-set}
+use Rattle.request_spec.proofs.Supplied.{bit-set, bit-clear}
 use borrow.Author.Needs.{needs}
 use Rattle.request_write.proofs.put_bit.Statement.{statement}
 use Rattle.request_write.proofs.put_bit.Tie as tie
@@ -10,11 +9,12 @@ put-bit-spec =
     (tie.spec
     (λ c κs. search needs)
     (λ c. search needs)
-    (λ c κs. search needs)
+    (λ c. search needs)
     (λ c. search needs)
     (λ c κs. search needs)
     (λ c. search needs)
-    (λ c. search (bit-set, lays, needs))
+    (λ c. search (bit-set, needs))
+    (λ c. search needs)
     (λ c κs. search needs)
     (λ c. search needs)
-    (λ c. search (bit-clear, lays, needs)))
+    (λ c. search (bit-clear, needs)))

@@ -1,4 +1,3 @@
-use Rattle.request_frame.proofs.Laid.{lays}
 use Rattle.request_spec.proofs.Supplied.{bool-laid, raw-laid, text-laid}
 use borrow.Author.Needs.{needs}
 use Rattle.request_write.proofs.put_data.Statement.{statement}
@@ -17,7 +16,7 @@ put-data-spec =
     (λ c κs. search needs)
     (λ c κs. search needs)
     (λ c. search needs)
-    (λ c. search (raw-laid, lays, needs))
+    (λ c. search (raw-laid, needs))
     (λ c. search needs)
     (λ c. search (bool-laid, needs))
     (λ c. search needs)

@@ -1,5 +1,4 @@
-use Rattle.request_frame.proofs.Laid.{lays}
-use Rattle.request_spec.proofs.Supplied.{ascii-laid, string-laid}
+use Rattle.request_spec.proofs.Supplied.{ascii-laid, text-string}
 use borrow.Author.Needs.{needs}
 use Rattle.request_write.proofs.put_text.Statement.{statement}
 use Rattle.request_write.proofs.put_text.Tie as tie
@@ -9,13 +8,12 @@ put-text-spec =
     tie.close
     (tie.spec
     (λ c κs. search needs)
-    (λ c κs. search needs)
+    (λ c. search needs)
+    (λ c. search needs)
     (λ c. search needs)
     (λ c κs. search needs)
     (λ c. search needs)
-    (λ c. search (ascii-laid, lays, needs))
+    (λ c. search (ascii-laid, needs))
     (λ c κs. search needs)
     (λ c. search needs)
-    (λ c κs. search needs)
-    (λ c. search needs)
-    (λ c. search (string-laid, lays, needs)))
+    (λ c. search (text-string, needs)))

@@ -1,5 +1,5 @@
 use Rattle.parser_spec.specs.Parts.{countOf}
-use Rattle.parser.proofs.PartReaders.{reading}
+use Rattle.parser.proofs.PartReaders.{answering}
 use borrow.Author.Needs.{needs}
 use Rattle.parser.proofs.Cur.count.Statement.{statement}
 use Rattle.parser.proofs.Cur.count.Tie as tie
@@ -12,13 +12,13 @@ count-spec =
     (λ c κs. search needs)
     (λ c. search needs)
     (λ c. search needs)
-    (λ c. search (reading, needs))
+    (λ c. search (answering, needs))
     (λ c κs. search needs)
     (λ c. search needs)
     (λ c. search needs)
-    (λ c. search (reading, needs))
+    (λ c. search (answering, needs))
     (λ c κs. search needs)
     (λ c. search needs)
     (λ c. search needs)
-    (λ c. search (reading, needs))
-    (λ c. search (reading, needs)))
+    (λ c. search (answering, needs))
+    (λ c. search (answering, needs)))

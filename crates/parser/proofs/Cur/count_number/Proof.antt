@@ -1,4 +1,4 @@
-use Rattle.parser.proofs.PartReaders.{any-number, one-or-two, word-none, word-number}
+use Rattle.parser.proofs.PartReaders.{any-number, not-two, one-or-two}
 use borrow.Author.Needs.{needs}
 use Rattle.parser.proofs.Cur.count_number.Statement.{statement}
 use Rattle.parser.proofs.Cur.count_number.Tie as tie
@@ -12,6 +12,6 @@ count-number-spec =
     (λ c κs. search needs)
     (λ c. search needs)
     (λ c. search needs)
-    (λ c. search (one-or-two, word-none, needs))
+    (λ c. search (not-two, needs))
     (λ c. search needs)
-    (λ c. search (one-or-two, word-number, needs)))
+    (λ c. search (one-or-two, needs)))

@@ -1,5 +1,5 @@
 use Rattle.parser_spec.specs.Parts.{digitsIn}
-use Rattle.parser.proofs.PartReaders.{reading, too-low, too-high, in-range}
+use Rattle.parser.proofs.PartReaders.{answering, too-low, too-high, in-range}
 use borrow.Author.Needs.{needs}
 use Rattle.parser.proofs.Cur.digits_in.Statement.{statement}
 use Rattle.parser.proofs.Cur.digits_in.Tie as tie
@@ -12,8 +12,8 @@ digits-in-spec =
     (λ c κs. search needs)
     (λ c. search needs)
     (λ c. search needs)
-    (λ c. search (reading, needs))
-    (λ c. search (reading, too-low, needs))
-    (λ c. search (reading, too-high, needs))
+    (λ c. search (answering, needs))
+    (λ c. search (answering, too-low, needs))
+    (λ c. search (answering, too-high, needs))
     (λ c. search needs)
-    (λ c. search (reading, in-range, needs)))
+    (λ c. search (answering, in-range, needs)))

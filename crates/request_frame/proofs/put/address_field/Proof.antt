@@ -1,4 +1,4 @@
-use Rattle.request_frame.proofs.Laid.{field-long, field-short, lays}
+use Rattle.request_frame.proofs.Laid.{field-short, field-long}
 use borrow.Author.Needs.{needs}
 use Rattle.request_frame.proofs.put.address_field.Statement.{statement}
 use Rattle.request_frame.proofs.put.address_field.Tie as tie
@@ -9,9 +9,10 @@ address-field-spec =
     (tie.spec
     (λ c κs. search needs)
     (λ c. search needs)
-    (λ c. search (field-short, lays, needs))
+    (λ c. search (field-short, needs))
+    (λ c. search needs)
+    (λ c. search needs)
     (λ c. search needs)
     (λ c κs. search needs)
-    (λ c κs. search needs)
     (λ c. search needs)
-    (λ c. search (field-long, lays, needs)))
+    (λ c. search (field-long, needs)))
