@@ -7,7 +7,8 @@
  * What a caller gets. Every call ends, reads and writes only what it is lent, keeps nothing of it and allocates nothing. `refused` is 0, or
  * the number of the question that was answered with no; behind "Refused:" stand the questions that a call asks. A refused call changes no
  * lent byte, and its other fields are 0 unless it says otherwise. A call that isn't refused writes what it says and nothing else: an output
- * from its start on, the `memory` of slc_set and slc_pccc only at the element or the bytes that are named.
+ * from its start on, the `memory` of slc_set and slc_pccc only at the element or the bytes that are named. The questions, in full and in the order
+ * in which each call asks them: docs/QUESTIONS.md.
  *
  *   1  Is the tag at most 255 bytes, each below 128?
  *   2  Does the tag spell an address?

@@ -59,7 +59,7 @@ QUESTIONS = (
 
 
 class Refused(Exception):
-    """The number of the question that was answered with no. The numbers are document 01's."""
+    """The number of the question that was answered with no: docs/QUESTIONS.md has them in full, and the order in which each call asks."""
 
     def __init__(self, number: int):
         super().__init__(number)

@@ -2,7 +2,7 @@ use crate::sys;
 use std::error::Error;
 use std::fmt;
 
-/// The number of the question that was answered with no. The numbers are document 01's.
+/// The number of the question that was answered with no: docs/QUESTIONS.md has them in full, and the order in which each call asks.
 ///
 /// ```
 /// assert_eq!(slc_link::Refused(3).to_string(), "refused 3: Is the tag free of a bit together with a count above 1? No.");
