@@ -10,8 +10,8 @@ use Rattle.parser.specs.declared.Cur.{Cur}
 use Rattle.parser_spec.proofs.Written.{stop}
 use Rattle.parser_spec.proofs.Behind.{Leaves}
 use Rattle.parser.specs.CursorAnswers.{placed}
-use Rattle.parser.proofs.PartReaders.{Reads, Onward, placed-none, placed-some, placed-at, placed-by, came, next, reading, answering}
-use Rattle.address_spec.proofs.Behind.{file-leaves, bit-leaves, bit-count-leaves, ignored-leaves, slot-leaves, position-leaves, st-or-a-leaves}
+use Rattle.parser.proofs.PartReaders.{Reads, Onward, placed-at, placed-by, gave-none, gave-some, came, next, reading, answering}
+use Rattle.address_spec.proofs.PhrasesLeave.{file-leaves, bit-leaves, bit-count-leaves, ignored-leaves, slot-leaves, position-leaves, st-or-a-leaves}
 use Rattle.address_spec.specs.ReaderAnswers.{typedOf, slotOf, bitOf, tailOf, namedOf}
 use Rattle.address_spec.specs.declared.Maybe.{Maybe}
 use Rattle.address_spec.specs.declared.Typed.{Typed}
@@ -64,77 +64,65 @@ abbrev typedAt : Typed → Option (FileType × ℕ)
 typedAt typed.No = none
 typedAt (typed.Is t c) = some (t, c .i)
 
-module _ (s : List ℕ) (i : ℕ) (x : Option (FileType × List ℕ)) (r : Typed) (e : r ≡ typedOf (placed i s x)) where
-  typed-at : typedAt r ≡ placed i s x
-  unfolding typedOf
-  typed-at = ap typedAt e ∙ go (placed i s x)
-    where
-      go : (o : Option (FileType × ℕ)) → typedAt (typedOf o) ≡ o
-      go none = refl
-      go (some p) = refl
+typed-told : (o : Option (FileType × ℕ)) → typedAt (typedOf o) ≡ o
+unfolding typedOf
+typed-told none = refl
+typed-told (some p) = refl
 
+module _ (s : List ℕ) (i : ℕ) (x : Option (FileType × List ℕ)) (r : Typed) (e : r ≡ typedOf (placed i s x)) where
   none-typed : r ≡ typed.No → x ≡ none
-  none-typed g = placed-none s i x (sym typed-at ∙ ap typedAt g)
+  none-typed g = gave-none typedOf typedAt typed-told s i x r e (ap typedAt g)
 
   some-typed : (t : FileType) (c : Cur) → r ≡ typed.Is t c → Leaves (drop i s) x → Reads s i x t (c .i)
-  some-typed t c g l = placed-some s i t (c .i) l (sym typed-at ∙ ap typedAt g)
+  some-typed t c g l = gave-some typedOf typedAt typed-told s i x r e t (c .i) (ap typedAt g) l
 
 abbrev slotAt : Slot → Option ((FileType × ℕ) × ℕ)
 slotAt slot.No = none
 slotAt (slot.Is t f c) = some ((t, f), c .i)
 
-module _ (s : List ℕ) (i : ℕ) (x : Option ((FileType × ℕ) × List ℕ)) (r : Slot) (e : r ≡ slotOf (placed i s x)) where
-  slot-at : slotAt r ≡ placed i s x
-  unfolding slotOf
-  slot-at = ap slotAt e ∙ go (placed i s x)
-    where
-      go : (o : Option ((FileType × ℕ) × ℕ)) → slotAt (slotOf o) ≡ o
-      go none = refl
-      go (some p) = refl
+slot-told : (o : Option ((FileType × ℕ) × ℕ)) → slotAt (slotOf o) ≡ o
+unfolding slotOf
+slot-told none = refl
+slot-told (some p) = refl
 
+module _ (s : List ℕ) (i : ℕ) (x : Option ((FileType × ℕ) × List ℕ)) (r : Slot) (e : r ≡ slotOf (placed i s x)) where
   none-slot : r ≡ slot.No → x ≡ none
-  none-slot g = placed-none s i x (sym slot-at ∙ ap slotAt g)
+  none-slot g = gave-none slotOf slotAt slot-told s i x r e (ap slotAt g)
 
   some-slot : (t : FileType) (f : ℕ) (c : Cur) → r ≡ slot.Is t f c → Leaves (drop i s) x → Reads s i x (t, f) (c .i)
-  some-slot t f c g l = placed-some s i (t, f) (c .i) l (sym slot-at ∙ ap slotAt g)
+  some-slot t f c g l = gave-some slotOf slotAt slot-told s i x r e (t, f) (c .i) (ap slotAt g) l
 
 abbrev bitAt : Bit → Option (Maybe × ℕ)
 bitAt bit.No = none
 bitAt (bit.Got b c) = some (b, c .i)
 
-module _ (s : List ℕ) (i : ℕ) (x : Option (Maybe × List ℕ)) (r : Bit) (e : r ≡ bitOf (placed i s x)) where
-  bit-at : bitAt r ≡ placed i s x
-  unfolding bitOf
-  bit-at = ap bitAt e ∙ go (placed i s x)
-    where
-      go : (o : Option (Maybe × ℕ)) → bitAt (bitOf o) ≡ o
-      go none = refl
-      go (some p) = refl
+bit-told : (o : Option (Maybe × ℕ)) → bitAt (bitOf o) ≡ o
+unfolding bitOf
+bit-told none = refl
+bit-told (some p) = refl
 
+module _ (s : List ℕ) (i : ℕ) (x : Option (Maybe × List ℕ)) (r : Bit) (e : r ≡ bitOf (placed i s x)) where
   none-bit : r ≡ bit.No → x ≡ none
-  none-bit g = placed-none s i x (sym bit-at ∙ ap bitAt g)
+  none-bit g = gave-none bitOf bitAt bit-told s i x r e (ap bitAt g)
 
   some-bit : (b : Maybe) (c : Cur) → r ≡ bit.Got b c → Leaves (drop i s) x → Reads s i x b (c .i)
-  some-bit b c g l = placed-some s i b (c .i) l (sym bit-at ∙ ap bitAt g)
+  some-bit b c g l = gave-some bitOf bitAt bit-told s i x r e b (c .i) (ap bitAt g) l
 
 abbrev tailAt : Tail → Option ((Maybe × ℕ) × ℕ)
 tailAt tail.No = none
 tailAt (tail.Got b n c) = some ((b, n), c .i)
 
-module _ (s : List ℕ) (i : ℕ) (x : Option ((Maybe × ℕ) × List ℕ)) (r : Tail) (e : r ≡ tailOf (placed i s x)) where
-  tail-at : tailAt r ≡ placed i s x
-  unfolding tailOf
-  tail-at = ap tailAt e ∙ go (placed i s x)
-    where
-      go : (o : Option ((Maybe × ℕ) × ℕ)) → tailAt (tailOf o) ≡ o
-      go none = refl
-      go (some p) = refl
+tail-told : (o : Option ((Maybe × ℕ) × ℕ)) → tailAt (tailOf o) ≡ o
+unfolding tailOf
+tail-told none = refl
+tail-told (some p) = refl
 
+module _ (s : List ℕ) (i : ℕ) (x : Option ((Maybe × ℕ) × List ℕ)) (r : Tail) (e : r ≡ tailOf (placed i s x)) where
   none-tail : r ≡ tail.No → x ≡ none
-  none-tail g = placed-none s i x (sym tail-at ∙ ap tailAt g)
+  none-tail g = gave-none tailOf tailAt tail-told s i x r e (ap tailAt g)
 
   some-tail : (b : Maybe) (n : ℕ) (c : Cur) → r ≡ tail.Got b n c → Leaves (drop i s) x → Reads s i x (b, n) (c .i)
-  some-tail b n c g l = placed-some s i (b, n) (c .i) l (sym tail-at ∙ ap tailAt g)
+  some-tail b n c g l = gave-some tailOf tailAt tail-told s i x r e (b, n) (c .i) (ap tailAt g) l
 
 -- ---- a part that a reader read, or didn't find, in front of what follows it
 module _ {A : Type 0} (s : List ℕ) (i : ℕ) where

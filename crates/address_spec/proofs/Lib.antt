@@ -1,5 +1,5 @@
 pub mod Forms
 pub mod Ranges
-pub mod Behind
+pub mod PhrasesLeave
 pub mod FormReaders
 pub mod SpellingRows

@@ -1,4 +1,3 @@
 pub mod DecimalBack
 pub mod Decimals
-pub mod DecimalRows
 pub mod Signs

@@ -1,2 +1,1 @@
 pub mod SizeIs
-pub mod SizeRows

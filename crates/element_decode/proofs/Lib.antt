@@ -1,3 +1,2 @@
 pub mod DecodeAnswers
 pub mod RoundTrip
-pub mod DecodeRows

@@ -1,3 +1,2 @@
-pub mod TextRows
 pub mod Swap
 pub mod Text

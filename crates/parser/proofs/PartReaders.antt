@@ -104,63 +104,64 @@ module _ (s : List ℕ) (i : ℕ) where
   unfolding readWordOf
   a-word x n c e o = rw (placed-at s i x n (c .i) e o)
 
--- ---- what the part gave by what a reader answered
+-- ---- what the part gave by what a reader answered: `back` tells it of the answer that `to` makes
+module _ {A R : Type 0} (to : Option (A × ℕ) → R) (back : R → Option (A × ℕ)) (told : (o : Option (A × ℕ)) → back (to o) ≡ o) (s : List ℕ) (i : ℕ) (x : Option (A × List ℕ)) (r : R) (e : r ≡ to (placed i s x)) where
+  gave : back r ≡ placed i s x
+  gave = ap back e ∙ told (placed i s x)
+
+  pub gave-none : back r ≡ none → x ≡ none
+  gave-none g = placed-none s i x (sym gave ∙ g)
+
+  pub gave-some : (v : A) (j : ℕ) → back r ≡ some (v, j) → Leaves (drop i s) x → Reads s i x v j
+  gave-some v j g l = placed-some s i v j l (sym gave ∙ g)
+
 abbrev eatenAt : Eaten → Option (Unit {0} × ℕ)
 eatenAt place.No = none
 eatenAt (place.At c) = some (tt, c .i)
 
-module _ (s : List ℕ) (i : ℕ) (x : Option (Unit {0} × List ℕ)) (r : Eaten) (e : r ≡ eatenOf (placed i s x)) where
-  eaten-at : eatenAt r ≡ placed i s x
-  unfolding eatenOf
-  eaten-at = ap eatenAt e ∙ go (placed i s x)
-    where
-      go : (o : Option (Unit {0} × ℕ)) → eatenAt (eatenOf o) ≡ o
-      go none = refl
-      go (some p) = refl
+eaten-told : (o : Option (Unit {0} × ℕ)) → eatenAt (eatenOf o) ≡ o
+unfolding eatenOf
+eaten-told none = refl
+eaten-told (some p) = refl
 
+module _ (s : List ℕ) (i : ℕ) (x : Option (Unit {0} × List ℕ)) (r : Eaten) (e : r ≡ eatenOf (placed i s x)) where
   none-eaten : r ≡ place.No → x ≡ none
-  none-eaten g = placed-none s i x (sym eaten-at ∙ ap eatenAt g)
+  none-eaten g = gave-none eatenOf eatenAt eaten-told s i x r e (ap eatenAt g)
 
   some-eaten : (c : Cur) → r ≡ place.At c → Leaves (drop i s) x → Reads s i x tt (c .i)
-  some-eaten c g l = placed-some s i tt (c .i) l (sym eaten-at ∙ ap eatenAt g)
+  some-eaten c g l = gave-some eatenOf eatenAt eaten-told s i x r e tt (c .i) (ap eatenAt g) l
 
 abbrev numberAt : ReadNumber → Option (ℕ × ℕ)
 numberAt number.No = none
 numberAt (number.Got n c) = some (n, c .i)
 
-module _ (s : List ℕ) (i : ℕ) (x : Option (ℕ × List ℕ)) (r : ReadNumber) (e : r ≡ readNumberOf (placed i s x)) where
-  number-at : numberAt r ≡ placed i s x
-  unfolding readNumberOf
-  number-at = ap numberAt e ∙ go (placed i s x)
-    where
-      go : (o : Option (ℕ × ℕ)) → numberAt (readNumberOf o) ≡ o
-      go none = refl
-      go (some p) = refl
+number-told : (o : Option (ℕ × ℕ)) → numberAt (readNumberOf o) ≡ o
+unfolding readNumberOf
+number-told none = refl
+number-told (some p) = refl
 
+module _ (s : List ℕ) (i : ℕ) (x : Option (ℕ × List ℕ)) (r : ReadNumber) (e : r ≡ readNumberOf (placed i s x)) where
   none-number : r ≡ number.No → x ≡ none
-  none-number g = placed-none s i x (sym number-at ∙ ap numberAt g)
+  none-number g = gave-none readNumberOf numberAt number-told s i x r e (ap numberAt g)
 
   some-number : (n : ℕ) (c : Cur) → r ≡ number.Got n c → Leaves (drop i s) x → Reads s i x n (c .i)
-  some-number n c g l = placed-some s i n (c .i) l (sym number-at ∙ ap numberAt g)
+  some-number n c g l = gave-some readNumberOf numberAt number-told s i x r e n (c .i) (ap numberAt g) l
 
 abbrev wordAt : ReadWord → Option (ℕ × ℕ)
 wordAt word.No = none
 wordAt (word.Got n c) = some (n, c .i)
 
-module _ (s : List ℕ) (i : ℕ) (x : Option (ℕ × List ℕ)) (r : ReadWord) (e : r ≡ readWordOf (placed i s x)) where
-  word-at : wordAt r ≡ placed i s x
-  unfolding readWordOf
-  word-at = ap wordAt e ∙ go (placed i s x)
-    where
-      go : (o : Option (ℕ × ℕ)) → wordAt (readWordOf o) ≡ o
-      go none = refl
-      go (some p) = refl
+word-told : (o : Option (ℕ × ℕ)) → wordAt (readWordOf o) ≡ o
+unfolding readWordOf
+word-told none = refl
+word-told (some p) = refl
 
+module _ (s : List ℕ) (i : ℕ) (x : Option (ℕ × List ℕ)) (r : ReadWord) (e : r ≡ readWordOf (placed i s x)) where
   none-word : r ≡ word.No → x ≡ none
-  none-word g = placed-none s i x (sym word-at ∙ ap wordAt g)
+  none-word g = gave-none readWordOf wordAt word-told s i x r e (ap wordAt g)
 
   some-word : (n : ℕ) (c : Cur) → r ≡ word.Got n c → Leaves (drop i s) x → Reads s i x n (c .i)
-  some-word n c g l = placed-some s i n (c .i) l (sym word-at ∙ ap wordAt g)
+  some-word n c g l = gave-some readWordOf wordAt word-told s i x r e n (c .i) (ap wordAt g) l
 
 -- ---- one byte
 module _ (test : ℕ → Bool) (s : List ℕ) (i : ℕ) where

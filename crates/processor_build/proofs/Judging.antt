@@ -17,6 +17,7 @@ use Rattle.processor_spec.specs.Build.{wantedOf, defaults, orDefaults, fileRefu
 use Rattle.processor_spec.specs.Plain.{entries, holds}
 use Rattle.processor_spec.specs.Refusals.{refusalOf}
 use Rattle.processor_spec.specs.State.{total, goodText, goodLog}
+use Rattle.processor_spec.proofs.RefusalTold.{no-number}
 use Rattle.processor_build_spec.specs.declared.Judged.{Judged}
 use Rattle.processor_build_spec.specs.Plans.{refusedWith, judged, judgedOf, roomFor, listJudged, noRecord, narrowed, recordOf}
 
@@ -33,9 +34,6 @@ text-asked text ts e = go (leb (length text) 11) refl
     go false t = unfold goodText in rw t
 
 -- ---- the questions, one after the other
-other-refusal : (n : ℕ) → refusal.None ≡ refusal.Number n → ⊥
-other-refusal n e = let z : _≡_ {A = ℕ} 0 1 = cc in omega arith
-
 module _ (fs : List (List ℕ)) (text log : List ℕ) (count t m : ℕ) (o : Refusal) (e : o ≡ refusalOf (fileRefusal [] (map wantedOf fs))) where
   abbrev rs : List FileRecord
   rs = recordsOf (map wantedOf fs)
@@ -49,7 +47,7 @@ module _ (fs : List (List ℕ)) (text log : List ℕ) (count t m : ℕ) (o : Ref
   judge-files n r i q = go (fileRefusal [] (map wantedOf fs)) e
     where
       go : (x : Option ℕ) → o ≡ refusalOf x → r ≡ judged (orThen x then) rs
-      go none f = absurd (other-refusal n (sym f ∙ i))
+      go none f = no-number (sym f ∙ i)
       go (some k) f = let g : n ≡ k = cc in q ∙ ap refusedWith g
 
   module _ (i : o ≡ refusal.None) where
@@ -59,7 +57,7 @@ module _ (fs : List (List ℕ)) (text log : List ℕ) (count t m : ℕ) (o : Ref
       where
         go : (x : Option ℕ) → o ≡ refusalOf x → judged (orThen x then) rs ≡ judged then rs
         go none f = refl
-        go (some k) f = absurd (other-refusal k (sym i ∙ f))
+        go (some k) f = no-number (sym i ∙ f)
 
     pub judge-text : (ts : List ℕ) (g : Bool) (r : Judged) → ts ≡ fitted 11 0 text → g ≡ (leb (length text) 11 && goodText (take (length text) ts)) → not g ≡ true → r ≡ refusedWith 13 → r ≡ listJudged fs text log count t m
     judge-text ts g r et eg off q = q ∙ sym (passed ∙ rw (sym (eg ∙ text-asked text ts et) ∙ not-true g off))

@@ -19,7 +19,7 @@ use Rattle.processor_query.specs.declared.Layout.{Layout}
 use Rattle.processor_query.specs.declared.Query.{Query}
 use Rattle.processor_query.specs.declared.Wants.the-variants as wants
 use Rattle.processor_query.specs.Query.{headerIn, layoutOf, plainly, directoryQuery, accessQuery, fileQuery, orBad, functionQuery}
-use Rattle.processor_query.proofs.Behind.{last-leaves, mask-leaves}
+use Rattle.processor_query.proofs.ParamsLeave.{last-leaves, mask-leaves}
 use Rattle.processor_query.proofs.WordSteps.{step-none, step-some, header-none, header-some}
 
 -- ---- the places behind what was read

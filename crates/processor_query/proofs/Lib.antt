@@ -1,5 +1,5 @@
 pub mod Family
-pub mod Behind
+pub mod ParamsLeave
 pub mod WordSteps
 pub mod FunctionQuery
 pub mod FunctionCodes

@@ -19,7 +19,7 @@ use Rattle.processor_params.specs.Header.{noHeader, headerBy, headerOf}
 use Rattle.processor_params.specs.Take.{placeOf, wordStep, addressAt}
 use Rattle.processor_query.specs.Query.{headerIn}
 use Rattle.parser_spec.proofs.Behind.{Behind, behind-drop, behind-trans, Leaves}
-use Rattle.processor_query.proofs.Behind.{header-leaves}
+use Rattle.processor_query.proofs.ParamsLeave.{header-leaves}
 
 -- ---- a step
 module _ (s : List ℕ) (at : ℕ) (a : WordStep) where

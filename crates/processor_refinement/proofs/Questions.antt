@@ -4,7 +4,6 @@ use mathlib.Core.Path.{_≡_, refl, sym, _∙_}
 use mathlib.Core.Bool.{Bool, true, false, not}
 use mathlib.Core.List.{List}
 use mathlib.Core.Option.{Option, none, some}
-use native.Mathlib.Omega.{arith}
 use borrow.Author.Tests.{leb-true, le-leb, lt-leb, not-true, not-false}
 use lib.Dec.{leb}
 use lib.ListN.{length}
@@ -18,6 +17,7 @@ use Rattle.processor_spec.specs.Frame.{wellFormed}
 use Rattle.processor_spec.specs.Pccc.{answeredOf, replyLeft, memoryLeft, slcLeft, Left, left, leftBy}
 use Rattle.processor_spec.specs.Refusals.{refusalOf}
 use Rattle.processor_spec.specs.Step.{Step, refuse}
+use Rattle.processor_spec.proofs.RefusalTold.{no-number}
 use Rattle.processor_soundness.specs.Sound.{goodLogBy, soundBy}
 use Rattle.processor_soundness.proofs.Surveyed.{log-good as log-of}
 use Rattle.processor_table.specs.declared.Seen.{Seen}
@@ -43,9 +43,6 @@ module _ (c : List ℕ) (room : ℕ) (sound ok : Bool) (eo : ok ≡ sound) where
       no-more u = rw (← eo, not-false ok t, le-leb 514 room l, ← ew, not-false w u)
 
 -- what a refusal tells of the answers
-no-number : {A : Type 0} {n : ℕ} → refusal.None ≡ refusal.Number n → A
-no-number e = absurd (let z : _≡_ {A = ℕ} 0 1 = cc in omega arith)
-
 none-told : (q : Option ℕ) → refusal.None ≡ refusalOf q → q ≡ none
 none-told none e = refl
 none-told (some n) e = no-number e

@@ -30,7 +30,7 @@ use Rattle.processor_query.specs.declared.Query.{Query}
 use Rattle.processor_query.specs.declared.Wants.the-variants as wants
 use Rattle.processor_query.specs.Query.{layoutOf, plainly, directoryQuery, accessQuery, fileQuery, orBad, functionQuery, bodyQuery, queryOf}
 use Rattle.parser_spec.proofs.Behind.{Behind, behind-trans, Leaves}
-use Rattle.processor_query.proofs.Behind.{last-leaves, mask-leaves, header-leaves}
+use Rattle.processor_query.proofs.ParamsLeave.{last-leaves, mask-leaves, header-leaves}
 use Rattle.processor_soundness.specs.Sound.{soundBy}
 use Rattle.processor_soundness.proofs.Surveyed.{sound-is}
 use Rattle.processor_table.specs.declared.Seen.{Seen}

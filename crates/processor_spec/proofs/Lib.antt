@@ -8,6 +8,7 @@ pub mod Plain
 pub mod Leaves
 pub mod Directory
 pub mod Replies
+pub mod RefusalTold
 pub mod NewSound
 pub mod ElementAccess
 pub mod Masked

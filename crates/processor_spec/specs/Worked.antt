@@ -1,4 +1,4 @@
--- The processor's worked rows of document 01, W9 to W11: what they speak of, computed by the definitions. `proofs/ProcessorRows.antt` has what it comes to.
+-- What rows of commands are written with: a processor of the default files, a command, and what is told of its reply.
 use Prim.Native.Nat.{ℕ}
 use mathlib.Core.List.{List, [], _∷_, _++_}
 use lib.ListN.{getD, drop, replicate}
@@ -43,15 +43,3 @@ told x = let bs : List ℕ = heard (x .done .answered) (x .reply) in getD bs 8 0
 
 unfoldable pub call : Raised → List ℕ → List ℕ → Left Done
 call r log bs = pcccOf (r .built .slc) (r .table) (r .memory) log (command bs) (replicate 514 0)
-
--- "W9 bytes 11 22 33, mask word 0x0FF0, value AA BB CC"
-unfoldable pub w9 : List ℕ
-w9 = masked 0x0FF0 (0x11 ∷ 0x22 ∷ 0x33 ∷ []) (0xAA ∷ 0xBB ∷ 0xCC ∷ [])
-
--- "W10 default files, size asked with 2": the type code and the size element are those of the type text's family
-unfoldable pub w10 : List ℕ → ℕ → ℕ → List ℕ
-w10 text code element = told (call (built text [] 0) [] (0xA1 ∷ 0x02 ∷ 0x00 ∷ code ∷ element ∷ []))
-
--- "W11 datalog parameters 6D 00 A5 FF 00"
-unfoldable pub w11 : List ℕ
-w11 = told (call (built [] (0x02 ∷ 0x00 ∷ 0x41 ∷ 0x42 ∷ []) 1) (0x02 ∷ 0x00 ∷ 0x41 ∷ 0x42 ∷ []) (0xA2 ∷ 0x6D ∷ 0x00 ∷ 0xA5 ∷ 0xFF ∷ 0x00 ∷ []))

@@ -1,2 +1,1 @@
-pub mod StatusRows
 pub mod Status

@@ -1,4 +1,4 @@
--- Worked rows of the order of the questions, where two that are asked one after the other are both answered with no: 3 before 4, 5 before 6.
+-- Rows by computation of the order of the questions, where two that are asked one after the other are both answered with no: 3 before 4, 5 before 6.
 use mathlib.Core.Path.{_≡_, refl}
 use mathlib.Core.List.{[], _∷_}
 use mathlib.Core.Bool.{true, false}

@@ -1,5 +1,4 @@
 pub mod HexBack
 pub mod Exact
 pub mod Pairs
-pub mod HexRows
 pub mod Splits

@@ -1,5 +1,4 @@
 pub mod Avoided
 pub mod ClosedFiles
 pub mod Calls
-pub mod AvoidedRows
 pub mod WhoAvoids

@@ -14,7 +14,8 @@ use Rattle.request_frame.specs.RequestFrame.{defaultRequestor}
 use Rattle.request_spec.specs.declared.WriteValue.{WriteValue}
 use Rattle.request_spec.specs.declared.WriteValue.the-variants as value
 use Rattle.request_spec.specs.Request.{Asked, refused, sends, reading, writing}
-use Rattle.processor_spec.specs.Worked.{w9, w10, w11}
+use Rattle.processor_spec.specs.Masked.{masked}
+use Rattle.processor_spec.specs.Worked.{built, told, call}
 
 -- bytes, numbers, or the number of a refusal
 pub data Result : Type 0 where
@@ -37,6 +38,18 @@ writes from n tag v text = sent from n (writing (bytes tag) v (bytes text) defau
 abbrev parsedAs : Parsed → Result
 parsedAs (parsed.Refused k) = refusal k
 parsedAs (parsed.Is x) = gives (row (x .«file_type») .code ∷ x .«file_number» ∷ x .«element_number» ∷ orZero (x .«sub_element») ∷ [])
+
+-- "W9 bytes 11 22 33, mask word 0x0FF0, value AA BB CC"
+unfoldable pub w9 : List ℕ
+w9 = masked 0x0FF0 (0x11 ∷ 0x22 ∷ 0x33 ∷ []) (0xAA ∷ 0xBB ∷ 0xCC ∷ [])
+
+-- "W10 default files, size asked with 2": the type code and the size element are those of the type text's family
+unfoldable pub w10 : List ℕ → ℕ → ℕ → List ℕ
+w10 text code element = told (call (built text [] 0) [] (0xA1 ∷ 0x02 ∷ 0x00 ∷ code ∷ element ∷ []))
+
+-- "W11 datalog parameters 6D 00 A5 FF 00"
+unfoldable pub w11 : List ℕ
+w11 = told (call (built [] (0x02 ∷ 0x00 ∷ 0x41 ∷ 0x42 ∷ []) 1) (0x02 ∷ 0x00 ∷ 0x41 ∷ 0x42 ∷ []) (0xA2 ∷ 0x6D ∷ 0x00 ∷ 0xA5 ∷ 0xFF ∷ 0x00 ∷ []))
 
 -- a row: its name, what the definitions give, and what document 01 says
 pub record Row : Type 0 where

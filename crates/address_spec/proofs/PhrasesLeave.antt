@@ -35,7 +35,7 @@ slot-leaves s = then-leaves (first-leaves _ s) λ t r. then-leaves (ignored-leav
 
 pub position-leaves : (s : List ℕ) → Leaves s (optionalPosition s)
 unfolding optionalPosition
-position-leaves s = after-leaves _ _ _ s λ r. in-leaves 3 0 999 r
+position-leaves s = after-leaves _ _ _ s λ r. in-leaves _ _ _ r
 
 pub st-or-a-leaves : (st : Bool) (s : List ℕ) → Leaves s (stOrA st s)
 unfolding stOrA
