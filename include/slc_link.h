@@ -1,41 +1,14 @@
 /* The SLC planner link for C: addresses, requests, replies, the file directory and a simulated processor (README.md). Link libslc_link.a.
+ * slc_device.h holds a simulated processor and its memories in one struct.
  *
  * What a caller must keep to. A lent memory is a pointer and a length in items: the pointer is not null (that of an empty memory may point
  * anywhere), the memory has that many items, and one that is written overlaps no other memory of the same call. Nothing else writes to a
  * lent memory while the call runs. The library is for x86-64 Linux, where `size_t` has 8 bytes. All else may have any value.
  *
  * What a caller gets. Every call ends, reads and writes only what it is lent, keeps nothing of it and allocates nothing. `refused` is 0, or
- * the number of the question that was answered with no; behind "Refused:" stand the questions that a call asks. A refused call changes no
- * lent byte, and its other fields are 0 unless it says otherwise. A call that isn't refused writes what it says and nothing else: an output
- * from its start on, the `memory` of slc_set and slc_pccc only at the element or the bytes that are named. The questions, in full and in the order
- * in which each call asks them: docs/QUESTIONS.md.
- *
- *   1  Is the tag at most 255 bytes, each below 128?
- *   2  Does the tag spell an address?
- *   3  Is the tag free of a bit together with a count above 1?
- *   4  Does the value suit the address?
- *   5  Is the size 0 to 255, or are there 2 to 257 raw bytes?
- *   6  Is the output long enough?
- *   7  Is the directory at most 65,535 bytes?
- *   8  Is the row size not 0?
- *   9  Do two bytes follow every known type code in the rows?
- *  10  Does the output hold all files of the directory?
- *  11  Is the type code one of the twelve?
- *  12  Is the file number at most 255 and new?
- *  13  Is the processor type at most 11 bytes, each below 128?
- *  14  Are the files at most 65,535 bytes, and do table and memory hold them?
- *  15  Has the datalog at most 64 entries of at most 255 bytes?
- *  16  Is the processor sound?
- *  17  Has the reply memory 514 bytes?
- *  18  Is the command not empty, its first byte not 0, and its length at least that byte plus 4?
- *  19  Does the file exist with this type, and does the element lie in it?
- *  20  Does the kind of value suit the type?
- *  21  Is the field name known?
- *  22  Is the number in range?
- *  23  Is the text for ST at most 82 bytes?
- *  24  Has the text memory 82 bytes?
- *  25  Has the reply 63 bytes?
- *  26  Is the offset at most 65,535?
+ * the number of the question that was answered with no (SLC_REFUSED_.. below); behind "Refused:" stand the questions that a call asks. A refused
+ * call changes no lent byte, and its other fields are 0 unless it says otherwise. A call that isn't refused writes what it says and nothing else:
+ * an output from its start on, the `memory` of slc_set and slc_pccc only at the element or the bytes that are named.
  */
 #ifndef SLC_LINK_H
 #define SLC_LINK_H
@@ -44,6 +17,66 @@
 #ifdef __cplusplus
 extern "C" {
 #endif
+
+/* the version of this interface */
+#define SLC_LINK_VERSION_MAJOR 0
+#define SLC_LINK_VERSION_MINOR 1
+#define SLC_LINK_VERSION_PATCH 0
+
+/* ---- numbers ---- */
+
+/* what a caller needs room for, in bytes or items, and where two things stand */
+enum {
+    SLC_REQUEST_ROOM = 27,               /* output of any request but a write */
+    SLC_WRITE_ROOM = 284,                /* output of a write request */
+    SLC_STATUS_ROOM = 96,                /* output of a status in words */
+    SLC_REPLY_ROOM = 514,                /* reply memory of slc_pccc */
+    SLC_TEXT_ROOM = 82,                  /* text memory, where the element that is read is text */
+    SLC_TAG_ROOM = 64,                   /* output of slc_tags_feed for each byte of the piece, and of slc_tags_finish */
+    SLC_MOST_FILES = 256,                /* records in the table of a processor */
+    SLC_MOST_DATA = 65535,               /* bytes of its data; also of a file directory, and the highest offset in one */
+    SLC_MOST_ENTRIES = 64,               /* entries of its datalog */
+    SLC_MOST_LOG = 16448,                /* bytes of its datalog: each entry has a length word and at most 255 bytes */
+    SLC_COMMAND_AT = 6,                  /* the place in a message where its PCCC command begins, behind CIP service and path */
+    SLC_DATA_AT = 11                     /* the place in a reply where its data begins, where the requester's id has the usual 7 bytes */
+};
+
+/* The questions, each with its number as a name. In full, and in the order in which each call asks them: docs/QUESTIONS.md. */
+enum {
+    SLC_REFUSED_TAG_BYTES = 1,           /* Is the tag at most 255 bytes, each below 128? */
+    SLC_REFUSED_TAG = 2,                 /* Does the tag spell an address? */
+    SLC_REFUSED_BIT_COUNT = 3,           /* Is the tag free of a bit together with a count above 1? */
+    SLC_REFUSED_VALUE = 4,               /* Does the value suit the address? */
+    SLC_REFUSED_SIZE = 5,                /* Is the size 0 to 255, or are there 2 to 257 raw bytes? */
+    SLC_REFUSED_OUTPUT_ROOM = 6,         /* Is the output long enough? */
+    SLC_REFUSED_DIRECTORY_LENGTH = 7,    /* Is the directory at most 65,535 bytes? */
+    SLC_REFUSED_ROW_SIZE = 8,            /* Is the row size not 0? */
+    SLC_REFUSED_ROW_CUT = 9,             /* Do two bytes follow every known type code in the rows? */
+    SLC_REFUSED_FILES_ROOM = 10,         /* Does the output hold all files of the directory? */
+    SLC_REFUSED_FILE_TYPE = 11,          /* Is the type code one of the twelve? */
+    SLC_REFUSED_FILE_NUMBER = 12,        /* Is the file number at most 255 and new? */
+    SLC_REFUSED_TYPE_TEXT = 13,          /* Is the processor type at most 11 bytes, each below 128? */
+    SLC_REFUSED_DATA_ROOM = 14,          /* Are the files at most 65,535 bytes, and do table and memory hold them? */
+    SLC_REFUSED_DATALOG = 15,            /* Has the datalog at most 64 entries of at most 255 bytes? */
+    SLC_REFUSED_UNSOUND = 16,            /* Is the processor sound? */
+    SLC_REFUSED_REPLY_ROOM = 17,         /* Has the reply memory 514 bytes? */
+    SLC_REFUSED_COMMAND = 18,            /* Is the command not empty, its first byte not 0, and its length at least that byte plus 4? */
+    SLC_REFUSED_NO_ELEMENT = 19,         /* Does the file exist with this type, and does the element lie in it? */
+    SLC_REFUSED_KIND = 20,               /* Does the kind of value suit the type? */
+    SLC_REFUSED_FIELD = 21,              /* Is the field name known? */
+    SLC_REFUSED_NUMBER = 22,             /* Is the number in range? */
+    SLC_REFUSED_TEXT_LENGTH = 23,        /* Is the text for ST at most 82 bytes? */
+    SLC_REFUSED_TEXT_ROOM = 24,          /* Has the text memory 82 bytes? */
+    SLC_REFUSED_REPLY_LENGTH = 25,       /* Has the reply 63 bytes? */
+    SLC_REFUSED_OFFSET = 26              /* Is the offset at most 65,535? */
+};
+
+/* the PCCC type codes of the fifteen file types; the simulated processor knows the twelve up to L */
+enum {
+    SLC_TYPE_O = 0x82, SLC_TYPE_I = 0x83, SLC_TYPE_S = 0x84, SLC_TYPE_B = 0x85, SLC_TYPE_T = 0x86,
+    SLC_TYPE_C = 0x87, SLC_TYPE_R = 0x88, SLC_TYPE_N = 0x89, SLC_TYPE_F = 0x8A, SLC_TYPE_ST = 0x8D,
+    SLC_TYPE_A = 0x8E, SLC_TYPE_L = 0x91, SLC_TYPE_MG = 0x92, SLC_TYPE_PD = 0x93, SLC_TYPE_PLS = 0x94
+};
 
 /* ---- file types ---- */
 
@@ -100,7 +133,7 @@ typedef struct { uint8_t refused; uint8_t kind; int32_t whole; uint32_t bits; si
 /* Sets the element that these bytes begin with, and gives `refused`. `text` is the text of A and ST, or the field's name. Refused: 19 to 23. */
 uint8_t slc_encode_element(uint8_t code, slc_value value, const uint8_t *text, size_t text_len, uint8_t *element, size_t element_len);
 
-/* Reads the element that these bytes begin with; for text, `text` needs 82 bytes. Refused: 19, 20, 24. */
+/* Reads the element that these bytes begin with; for text, `text` needs SLC_TEXT_ROOM bytes. Refused: 19, 20, 24. */
 slc_element slc_decode_element(uint8_t code, const uint8_t *element, size_t element_len, uint8_t *text, size_t text_len);
 
 /* ---- addresses and requests ---- */
@@ -127,30 +160,32 @@ slc_address slc_parse_tag(const uint8_t *tag, size_t tag_len);
 /* 09 10 and 09 10 19 71. */
 slc_requestor slc_default_requestor(void);
 
-/* The message that reads what a tag names; `out` needs 27 bytes. Refused: 1, 2, 3, 5, 6. */
+/* The message that reads what a tag names; `out` needs SLC_REQUEST_ROOM bytes. Refused: 1, 2, 3, 5, 6. */
 slc_request slc_read_request(const uint8_t *tag, size_t tag_len, slc_requestor q, uint16_t sequence, uint8_t *out, size_t out_len);
 
 enum { SLC_RAW = 0, SLC_FALSE = 1, SLC_TRUE = 2, SLC_LATIN1 = 3 };
 
-/* The message that writes raw bytes (mask and data), false, true or text to what a tag names; `out` needs 284 bytes. `bytes` has the raw bytes
-   or the text. Another kind suits no address (4). Refused: 1 to 6. */
+/* The message that writes raw bytes (mask and data), false, true or text to what a tag names; `out` needs SLC_WRITE_ROOM bytes. `bytes` has the
+   raw bytes or the text. Another kind suits no address (4). Refused: 1 to 6. */
 slc_request slc_write_request(const uint8_t *tag, size_t tag_len, uint8_t kind, const uint8_t *bytes, size_t bytes_len, slc_requestor q, uint16_t sequence, uint8_t *out, size_t out_len);
 
-/* The messages that ask for the processor's type, and for the oldest entry of a datalog queue; `out` needs 27 bytes. Refused: 6. */
+/* The messages that ask for the processor's type, and for the oldest entry of a datalog queue; `out` needs SLC_REQUEST_ROOM bytes.
+   Refused: 6. */
 slc_written slc_processor_type_request(slc_requestor q, uint16_t sequence, uint8_t *out, size_t out_len);
 slc_written slc_datalog_request(uint8_t queue, uint8_t *out, size_t out_len);
 
-/* ---- replies: `raw` is the whole message, from its encapsulation header on ---- */
+/* ---- replies: `raw` is the whole message of a connected reply, from its encapsulation header on, with the PCCC reply from byte 50 on ---- */
 
-/* The status of a reply in words, nothing for success; `out` needs 96 bytes for a text. Refused: 6. */
+/* The status of a connected reply with its encapsulation, in words, nothing for success; `out` needs SLC_STATUS_ROOM bytes for a text. Refused:
+   6. */
 slc_written slc_request_status(const uint8_t *raw, size_t raw_len, uint8_t *out, size_t out_len);
 
-/* The text of a status code, nothing where it has none; `out` needs 96 bytes for a text. Refused: 6. */
+/* The text of a status code, nothing where it has none; `out` needs SLC_STATUS_ROOM bytes for a text. Refused: 6. */
 slc_written slc_error_text(uint8_t status, uint8_t *out, size_t out_len);
 
 typedef struct { size_t from, length; } slc_part;
 
-/* The datalog entry of a reply: a part of it. */
+/* The datalog entry of a connected reply with its encapsulation: a part of it. */
 slc_part slc_parse_datalog(const uint8_t *raw, size_t raw_len);
 
 /* ---- the file directory, as a client reads it ---- */
@@ -169,13 +204,13 @@ typedef struct { uint8_t refused; int32_t bytes; } slc_directory_size;
 /* Where a processor keeps its directory, by its type text. */
 slc_sys0 slc_sys0_info(const uint8_t *plc_type, size_t plc_type_len);
 
-/* The message that asks for the directory's size; `out` needs 27 bytes. Refused: 6. */
+/* The message that asks for the directory's size; `out` needs SLC_REQUEST_ROOM bytes. Refused: 6. */
 slc_written slc_file_directory_size_request(slc_sys0 info, slc_requestor q, uint16_t sequence, uint8_t *out, size_t out_len);
 
-/* The message that reads `size` bytes of the directory from an offset on; `out` needs 27 bytes. Refused: 26, 6. */
+/* The message that reads `size` bytes of the directory from an offset on; `out` needs SLC_REQUEST_ROOM bytes. Refused: 26, 6. */
 slc_written slc_file_directory_read_request(uint8_t file_type, size_t offset, uint8_t size, slc_requestor q, uint16_t sequence, uint8_t *out, size_t out_len);
 
-/* The directory's size in a reply, less what the processor adds; it may be negative. Refused: 25. */
+/* The directory's size in a connected reply with its encapsulation, less what the processor adds; it may be negative. Refused: 25. */
 slc_directory_size slc_parse_file_directory_size(const uint8_t *raw, size_t raw_len, slc_sys0 info);
 
 /* The files of a directory's rows, each as type code, number, elements and length in bytes; `length` counts files. Refused: 7 to 10. */
@@ -183,8 +218,9 @@ slc_written slc_parse_file_directory(size_t file_position, size_t row_size, cons
 
 /* ---- the simulated processor ----
    Its plain data goes by value. Its file records (`table`), its file data (`memory`) and its datalog (`log`: entries end to end, each a length
-   word, low byte first, and its bytes) stand in lent memories, which the caller keeps from call to call. 256 records and 65,535 bytes of data
-   are always enough. */
+   word, low byte first, and its bytes) stand in lent memories, which the caller keeps from call to call: every call takes the processor, table,
+   memory and log in this order, and then its own. SLC_MOST_FILES records and SLC_MOST_DATA bytes of data are always enough. slc_device.h keeps
+   all of them together. */
 
 typedef struct { uint16_t number; uint8_t code; uint16_t start, length; } slc_file_record;
 typedef struct {
@@ -199,11 +235,11 @@ typedef struct { slc_processor slc; uint8_t refused; size_t length; } slc_done; 
 
 /* A processor of these files (each number, type code, elements), of this type text and of a datalog of `count` entries. No files: the default
    ones. The data is zeros. Refused: 11 to 15. */
-slc_built slc_new(const uint32_t (*files)[3], size_t files_len, const uint8_t *text, size_t text_len, const uint8_t *log, size_t log_len, size_t count,
-                  slc_file_record *table, size_t table_len, uint8_t *memory, size_t memory_len);
+slc_built slc_new(slc_file_record *table, size_t table_len, uint8_t *memory, size_t memory_len, const uint8_t *log, size_t log_len,
+                  size_t count, const uint32_t (*files)[3], size_t files_len, const uint8_t *text, size_t text_len);
 
-/* The reply to a command (from the requester's id on), and the processor as the command leaves it; `reply` needs 514 bytes. A command that the
-   processor can't do has a reply too, which says so. Refused: 16, 17, 18. */
+/* The reply to a command (from the requester's id on), and the processor as the command leaves it; `reply` needs SLC_REPLY_ROOM bytes. A
+   command that the processor can't do has a reply too, which says so. Refused: 16, 17, 18. */
 slc_done slc_pccc(slc_processor slc, const slc_file_record *table, size_t table_len, uint8_t *memory, size_t memory_len, const uint8_t *log, size_t log_len,
                   const uint8_t *command, size_t command_len, uint8_t *reply, size_t reply_len);
 
@@ -211,13 +247,13 @@ slc_done slc_pccc(slc_processor slc, const slc_file_record *table, size_t table_
 typedef struct { uint16_t number; uint8_t code; size_t element; } slc_spot;
 typedef struct { uint16_t number; uint8_t code; size_t element; slc_value value; } slc_setting;
 
-/* Reads an element; for text, `text` needs 82 bytes. Refused: 16, 19, 24. */
-slc_element slc_read(slc_processor slc, const slc_file_record *table, size_t table_len, slc_spot at, uint8_t *text, size_t text_len,
-                     const uint8_t *log, size_t log_len, const uint8_t *memory, size_t memory_len);
+/* Reads an element; for text, `text` needs SLC_TEXT_ROOM bytes. Refused: 16, 19, 24. */
+slc_element slc_read(slc_processor slc, const slc_file_record *table, size_t table_len, const uint8_t *memory, size_t memory_len, const uint8_t *log, size_t log_len,
+                     slc_spot at, uint8_t *text, size_t text_len);
 
 /* Sets an element, and gives `refused`. `text` is the text of A and ST, or the field's name. Refused: 16, 19 to 23. */
-uint8_t slc_set(slc_processor slc, const slc_file_record *table, size_t table_len, slc_setting to, uint8_t *memory, size_t memory_len,
-                const uint8_t *log, size_t log_len, const uint8_t *text, size_t text_len);
+uint8_t slc_set(slc_processor slc, const slc_file_record *table, size_t table_len, uint8_t *memory, size_t memory_len, const uint8_t *log, size_t log_len,
+                slc_setting to, const uint8_t *text, size_t text_len);
 
 /* ---- the program `tags` on memories: a read request for each line, default requester, sequence 0 ---- */
 
@@ -228,10 +264,10 @@ typedef struct { slc_line line; size_t taken, used; } slc_fed;          /* bytes
 slc_line slc_line_empty(void);
 
 /* The answers to the lines that end in a piece of the input, and the line that goes on behind it. As many bytes of the piece are taken as
-   `out` has 64 bytes for. */
+   `out` has SLC_TAG_ROOM bytes for. */
 slc_fed slc_tags_feed(slc_line line, const uint8_t *piece, size_t piece_len, uint8_t *out, size_t out_len);
 
-/* The answer to a last line that has no newline: its length. `out` needs 64 bytes; with less, nothing is written. */
+/* The answer to a last line that has no newline: its length. `out` needs SLC_TAG_ROOM bytes; with less, nothing is written. */
 size_t slc_tags_finish(slc_line line, uint8_t *out, size_t out_len);
 
 #ifdef __cplusplus

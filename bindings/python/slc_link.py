@@ -202,11 +202,11 @@ CALLS = {
                                                           out=_OUT)),
     "slc_parse_file_directory_size": (slc_directory_size, dict(raw=_IN, info=slc_sys0)),
     "slc_parse_file_directory": (slc_written, dict(file_position=c_size_t, row_size=c_size_t, bytes=_IN, out=Lent(c_uint32 * 4, True))),
-    "slc_new": (slc_built, dict(files=Lent(c_uint32 * 3, False), text=_IN, log=_IN, count=c_size_t, table=Lent(slc_file_record, True),
-                                memory=_OUT)),
+    "slc_new": (slc_built, dict(table=Lent(slc_file_record, True), memory=_OUT, log=_IN, count=c_size_t, files=Lent(c_uint32 * 3, False),
+                                text=_IN)),
     "slc_pccc": (slc_done, dict(slc=slc_processor, table=_TABLE, memory=_OUT, log=_IN, command=_IN, reply=_OUT)),
-    "slc_read": (slc_element, dict(slc=slc_processor, table=_TABLE, at=slc_spot, text=_OUT, log=_IN, memory=_IN)),
-    "slc_set": (c_uint8, dict(slc=slc_processor, table=_TABLE, to=slc_setting, memory=_OUT, log=_IN, text=_IN)),
+    "slc_read": (slc_element, dict(slc=slc_processor, table=_TABLE, memory=_IN, log=_IN, at=slc_spot, text=_OUT)),
+    "slc_set": (c_uint8, dict(slc=slc_processor, table=_TABLE, memory=_OUT, log=_IN, to=slc_setting, text=_IN)),
     "slc_line_empty": (slc_line, dict()),
     "slc_tags_feed": (slc_fed, dict(line=slc_line, piece=_IN, out=_OUT)),
     "slc_tags_finish": (c_size_t, dict(line=slc_line, out=_OUT)),
@@ -667,7 +667,7 @@ class Processor:
         log = b"".join(struct.pack("<H", min(len(entry), 65535)) + entry[:65535] for entry in entries)
         self._log = _lent(c_uint8, log)
         table, memory = (slc_file_record * MOST_FILES)(), _output(MOST_DATA)
-        built = _call("slc_new", (c_uint32 * 3 * len(rows))(*rows), _bytes(type_text), self._log, len(entries), table, memory)
+        built = _call("slc_new", table, memory, self._log, len(entries), (c_uint32 * 3 * len(rows))(*rows), _bytes(type_text))
         _test(built.refused)
         self._slc = built.slc
         self._table = (slc_file_record * built.slc.files).from_buffer_copy(table)
@@ -686,13 +686,13 @@ class Processor:
         """An element: a Whole, Float, Text or Fields. Refused: 19, 24."""
         at = _made(slc_spot, number=number, code=code, element=element)
         text = _output(room)
-        return _element(_call("slc_read", self._slc, self._table, at, text, self._log, self._memory), text)
+        return _element(_call("slc_read", self._slc, self._table, self._memory, self._log, at, text), text)
 
     def set(self, number, code, element, value):
         """Sets an element to an int, a float, text, Words, a Field, or one of the classes above. Refused: 19 to 23."""
         value, text = _value(value)
         to = _made(slc_setting, number=number, code=code, element=element, value=value)
-        _test(_call("slc_set", self._slc, self._table, to, self._memory, self._log, text))
+        _test(_call("slc_set", self._slc, self._table, self._memory, self._log, to, text))
 
     @property
     def files(self) -> list[FileRecord]:

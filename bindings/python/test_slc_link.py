@@ -289,10 +289,10 @@ class TheCallsOfC(unittest.TestCase):
                 (26, "slc_file_directory_read_request", 1, 65536, 1, q, 0, memory),
                 (25, "slc_parse_file_directory_size", b"", info),
                 (10, "slc_parse_file_directory", 0, 3, 2 * b"\x89\2\0", rows),
-                (14, "slc_new", files, b"", b"", 0, table, slc_link._output(901)),
-                (15, "slc_new", files, b"", b"", 1, table, slc_link._output(902)),
+                (14, "slc_new", table, slc_link._output(901), b"", 0, files, b""),
+                (15, "slc_new", table, slc_link._output(902), b"", 1, files, b""),
                 (16, "slc_pccc", slc_link.slc_processor(), table, memory, b"", W1[6:], slc_link._output(514)),
-                (16, "slc_read", slc_link.slc_processor(), table, slc_link.slc_spot(), text, b"", b"")):
+                (16, "slc_read", slc_link.slc_processor(), table, b"", b"", slc_link.slc_spot(), text)):
             answer = slc_link._call(name, *values)
             self.assertEqual([n for n in numbers(answer) if n], [number], name)
             self.assertEqual(out, before, name)

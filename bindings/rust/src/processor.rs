@@ -68,17 +68,17 @@ impl Processor {
         let mut memory = vec![0; MOST_DATA];
         let built = unsafe {
             sys::slc_new(
-                files.as_ptr(),
-                files.len(),
-                type_text.as_ptr(),
-                type_text.len(),
-                log.as_ptr(),
-                log.len(),
-                datalog.len(),
                 table.as_mut_ptr(),
                 table.len(),
                 memory.as_mut_ptr(),
                 memory.len(),
+                log.as_ptr(),
+                log.len(),
+                datalog.len(),
+                files.as_ptr(),
+                files.len(),
+                type_text.as_ptr(),
+                type_text.len(),
             )
         };
         Refused::test(built.refused)?;
@@ -120,13 +120,13 @@ impl Processor {
                 self.slc,
                 self.table.as_ptr(),
                 self.table.len(),
+                self.memory.as_ptr(),
+                self.memory.len(),
+                self.log.as_ptr(),
+                self.log.len(),
                 at,
                 text.as_mut_ptr(),
                 text.len(),
-                self.log.as_ptr(),
-                self.log.len(),
-                self.memory.as_ptr(),
-                self.memory.len(),
             )
         };
         Element::of(read, text)
@@ -141,11 +141,11 @@ impl Processor {
                 self.slc,
                 self.table.as_ptr(),
                 self.table.len(),
-                to,
                 self.memory.as_mut_ptr(),
                 self.memory.len(),
                 self.log.as_ptr(),
                 self.log.len(),
+                to,
                 text.as_ptr(),
                 text.len(),
             )

@@ -67,10 +67,10 @@ fn setting_of(t: FileType, w: SlcSetting) -> Setting
 pub fn read_element(
     slc: Slc,
     s: Seen,
+    memory: &[u8],
+    log: &[u8],
     w: SlcSpot,
     text: &mut [u8],
-    log: &[u8],
-    memory: &[u8],
 ) -> SlcElement
     ensures { λ r. ⌜ ReadsInNumbers (readInBy (ofCode (w .code)) slc s w (now (memory .entry)) (now (log .entry)) (length (now (text .entry)))) (now (text .entry)) r (now (text .exit)) ⌝ }
 {
@@ -81,10 +81,10 @@ pub fn read_element(
             link_elements::numbers_of(processor_element_core::read_element(
                 slc,
                 s,
+                memory,
+                log,
                 at,
                 text,
-                log,
-                memory,
             ))
         }
         Known::Unknown => link_elements::refusal(no_type(slc, s, memory.len(), log)),
@@ -95,9 +95,9 @@ pub fn read_element(
 pub fn set_element(
     slc: Slc,
     s: Seen,
-    w: SlcSetting,
     memory: &mut [u8],
     log: &[u8],
+    w: SlcSetting,
     text: &[u8],
 ) -> u8
     ensures { λ r. ⌜ StoresInNumbers (setInBy (ofCode (w .code)) slc s w (now (memory .entry)) (now (log .entry)) (now (text .entry))) (now (memory .entry)) r (now (memory .exit)) ⌝ }
@@ -109,9 +109,9 @@ pub fn set_element(
             link_elements::stored_number(processor_element_core::set_element(
                 slc,
                 s,
-                to,
                 memory,
                 log,
+                to,
                 text,
             ))
         }

@@ -1,10 +1,10 @@
 -- The records of answers that count what was written, and of the datalog's part and the directory's size. Refused: the number, and 0 for all else.
-use Prim.Native.Nat.{ℕ, min}
+use Prim.Native.Nat.{ℕ, _-_}
 use mathlib.Core.Path.{_≡_}
 use mathlib.Core.List.{List}
 use mathlib.Core.Option.{Option}
 use lib.IntN.{pos}
-use lib.ListN.{length, take, drop}
+use lib.ListN.{length}
 use Rattle.base.specs.Outcome.{Outcome, left}
 use Rattle.directory_size.specs.declared.DirectorySize.{DirectorySize}
 use Rattle.directory_size.specs.declared.DirectorySize.the-variants as size
@@ -17,7 +17,7 @@ use Rattle.request_untagged.specs.Requests.{messageOf}
 use Rattle.reply_status_text.specs.declared.StatusText.{StatusText}
 use Rattle.reply_status_text.specs.declared.StatusText.the-variants as status
 use Rattle.reply_status_text.specs.Texts.{answerOf, leftOf}
-use Rattle.reply.specs.Status.{datalogEntry}
+use Rattle.reply.specs.Status.{datalogEntry, replyDatalog}
 use Rattle.element_text.specs.declared.Swapped.{Swapped}
 use Rattle.element_text.specs.declared.Swapped.the-variants as swapped
 use Rattle.element_text.specs.Text.{writtenOf, outOf}
@@ -50,9 +50,17 @@ abbrev pub sizeRecord : DirectorySize → SlcDirectorySize
 sizeRecord (size.Refused n) = record { refused = n; bytes = pos 0 }
 sizeRecord (size.Bytes z) = record { refused = 0; bytes = z }
 
+-- the part of the caller's bytes that stands at their end
+abbrev pub endPart : List ℕ → List ℕ → SlcPart
+endPart s end = record { from = length s - length end; length = length end }
+
 -- "`parse_datalog` as the part of the caller's reply from byte 61 on (empty if shorter)"
 unfoldable pub partOf : List ℕ → SlcPart
-partOf raw = record { from = min 61 (length raw); length = length (datalogEntry raw) }
+partOf raw = endPart raw (datalogEntry raw)
+
+-- the same of a reply that begins with the requester's id
+unfoldable pub replyPart : List ℕ → SlcPart
+replyPart reply = endPart reply (replyDatalog reply)
 
 -- ---- what calls answer and leave in the lent memory
 -- these bytes, where there is room for them

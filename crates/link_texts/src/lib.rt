@@ -1,7 +1,9 @@
 // The records of the C interface that count what was written to lent memory, and those of the other answers of replies and the client's file
 // directory. `refused` is 0, or the number of the question that was answered with no.
 ghost use mathlib.Core.Path.{_≡_};
-ghost use Rattle.link_texts.specs.WrittenRecords.{swappedRecord, messageRecord, statusRecord, listedRecord, sizeRecord, partOf, written, Swaps};
+ghost use Prim.Native.Nat.{_≤_};
+ghost use lib.ListN.{length};
+ghost use Rattle.link_texts.specs.WrittenRecords.{swappedRecord, messageRecord, statusRecord, listedRecord, sizeRecord, endPart, partOf, replyPart, written, Swaps};
 use directory::Listed;
 use directory_size::DirectorySize;
 use element_text::Swapped;
@@ -98,15 +100,29 @@ pub fn size_record(m: DirectorySize) -> SlcDirectorySize
     }
 }
 
+// The part of some bytes that stands at their end.
+fn end_part(bytes: &[u8], end: &[u8]) -> SlcPart
+    requires { ⌜ length (now end) ≤ length (now bytes) ⌝ }
+    ensures { λ r. ⌜ r ≡ endPart (now (bytes .entry)) (now (end .entry)) ⌝ }
+{
+    SlcPart {
+        from: bytes.len() - end.len(),
+        length: end.len(),
+    }
+}
+
 // The place of the datalog entry in a raw reply.
 pub fn datalog_part(raw: &[u8]) -> SlcPart
     ensures { λ r. ⌜ r ≡ partOf (now (raw .entry)) ⌝ }
 {
-    let entry = reply::parse_datalog(raw);
-    SlcPart {
-        from: base::least(61, raw.len()),
-        length: entry.len(),
-    }
+    end_part(raw, reply::parse_datalog(raw))
+}
+
+// The place of the datalog entry in a reply that begins with the requester's id.
+pub fn reply_datalog_part(reply: &[u8]) -> SlcPart
+    ensures { λ r. ⌜ r ≡ replyPart (now (reply .entry)) ⌝ }
+{
+    end_part(reply, reply::reply_datalog(reply))
 }
 
 // Lays bytes over the start of a memory that has room for all of them. Refused with 6.

@@ -45,11 +45,11 @@ fn laid(files: &[[u32; 3]], count: usize) -> [FileRecord; 256]
 
 // `Slc::new` in a table of 256 records.
 pub fn new_on(
-    files: &[[u32; 3]],
-    text: &[u8],
+    memory: &mut [u8],
     log: &[u8],
     count: usize,
-    memory: &mut [u8],
+    files: &[[u32; 3]],
+    text: &[u8],
 ) -> Raised
     ensures { λ r. ⌜ raised (r .built) (r .rows) (now (memory .exit)) ≡ newOf (planOf (now (files .entry)) (now (text .entry)) (now (log .entry)) count) (replicate 256 noRecord) (now (memory .entry)) ⌝ }
 {
@@ -77,28 +77,28 @@ fn survey_on(rows: [FileRecord; 256], n: usize, number: u16) -> Seen
 pub fn read_on(
     slc: Slc,
     rows: [FileRecord; 256],
+    memory: &[u8],
+    log: &[u8],
     w: Spot,
     text: &mut [u8],
-    log: &[u8],
-    memory: &[u8],
 ) -> Element
     ensures { λ r. ⌜ Reads (readOf (stateOf slc rows (now (memory .entry)) (now (log .entry))) (w .«file_type») (w .number) (w .element) (length (now (text .entry)))) (now (text .entry)) r (now (text .exit)) ⌝ }
 {
     let s = survey_on(rows, slc.files, w.number);
-    processor_element_core::read_element(slc, s, w, text, log, memory)
+    processor_element_core::read_element(slc, s, memory, log, w, text)
 }
 
 // Sets an element, as `processor_element::set` does.
 pub fn set_on(
     slc: Slc,
     rows: [FileRecord; 256],
-    w: Setting,
     memory: &mut [u8],
     log: &[u8],
+    w: Setting,
     text: &[u8],
 ) -> Stored
     ensures { λ r. ⌜ Stores (setOf (stateOf slc rows (now (memory .entry)) (now (log .entry))) (w .«file_type») (w .number) (w .element) (w .value) (now (text .entry))) (now (memory .entry)) r (now (memory .exit)) ⌝ }
 {
     let s = survey_on(rows, slc.files, w.number);
-    processor_element_core::set_element(slc, s, w, memory, log, text)
+    processor_element_core::set_element(slc, s, memory, log, w, text)
 }

@@ -1,2 +1,4 @@
 pub mod Accessing
+pub mod Reading
+pub mod Setting
 pub mod Wanting

@@ -57,10 +57,10 @@ fn locate(s: Seen, t: FileType, element: usize) -> Located
 pub fn read_element(
     slc: Slc,
     s: Seen,
+    memory: &[u8],
+    log: &[u8],
     w: Spot,
     text: &mut [u8],
-    log: &[u8],
-    memory: &[u8],
 ) -> Element
     ensures { λ r. ⌜ Reads (readBy slc s w (now (memory .entry)) (now (log .entry)) (length (now (text .entry)))) (now (text .entry)) r (now (text .exit)) ⌝ }
 {
@@ -82,9 +82,9 @@ pub fn read_element(
 pub fn set_element(
     slc: Slc,
     s: Seen,
-    w: Setting,
     memory: &mut [u8],
     log: &[u8],
+    w: Setting,
     text: &[u8],
 ) -> Stored
     ensures { λ r. ⌜ Stores (setBy slc s w (now (memory .entry)) (now (log .entry)) (now (text .entry))) (now (memory .entry)) r (now (memory .exit)) ⌝ }

@@ -20,12 +20,12 @@ pub fn lay(table: &mut [FileRecord], files: &[[u32; 3]], count: usize)
 // The processor of these files, each a number, a type code and how many elements it has, of the type text and of a datalog with so many
 // entries: 11 to 15 where it is refused, which changes nothing.
 pub fn new(
-    files: &[[u32; 3]],
-    text: &[u8],
-    log: &[u8],
-    count: usize,
     table: &mut [FileRecord],
     memory: &mut [u8],
+    log: &[u8],
+    count: usize,
+    files: &[[u32; 3]],
+    text: &[u8],
 ) -> Built
     ensures { λ r. ⌜ raised r (now (table .exit)) (now (memory .exit)) ≡ newOf (planOf (now (files .entry)) (now (text .entry)) (now (log .entry)) count) (now (table .entry)) (now (memory .entry)) ⌝ }
 {

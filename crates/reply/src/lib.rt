@@ -1,4 +1,4 @@
-// What a raw reply says: its status in words, and the datalog entry that it carries.
+// What a reply says: its status in words, and the datalog entry that it carries.
 ghost use mathlib.Core.Path.{_≡_};
 ghost use mathlib.Core.Option.{some};
 ghost use Prim.Native.Nat.{_+_, _<_, _≤_};
@@ -6,15 +6,9 @@ ghost use lib.ListN.{length};
 ghost use Rattle.base.specs.Chars.{bytes};
 ghost use Rattle.base.specs.Put.{Wrote};
 ghost use Rattle.reply_status_text.specs.Texts.{Tells};
-ghost use Rattle.reply.specs.Status.{digit as Status·digit, inHex, byteAt, said, statusText, datalogEntry};
+ghost use Rattle.reply.specs.Status.{digit as Status·digit, inHex, first, said, statusIn, statusText, replyStatus, datalogEntry, replyDatalog};
 use reply_status_text::ROOM;
 use reply_status_text::StatusText;
-
-// Where a raw reply has its status.
-const STATUS: usize = 58;
-
-// Where it has what follows its header: data, or an extended status.
-const START: usize = 61;
 
 // A small digit.
 fn digit(d: u8) -> u8
@@ -45,43 +39,38 @@ fn unknown(status: u8, out: &mut [u8]) -> StatusText
 }
 
 // The status F0, with the extended status where the reply has one.
-fn extended(raw: &[u8], out: &mut [u8]) -> StatusText
-    ensures { λ r. ⌜ Tells (said (some 0xF0) (byteAt 61 (now (raw .entry)))) (now (out .entry)) r (now (out .exit)) ⌝ }
+fn extended(extension: &[u8], out: &mut [u8]) -> StatusText
+    ensures { λ r. ⌜ Tells (said (some 0xF0) (first (now (extension .entry)))) (now (out .entry)) r (now (out .exit)) ⌝ }
 {
     let text = reply_status_text::pccc_error_text(0xF0, out);
-    if raw.len() <= START {
+    if extension.len() == 0 {
         return text;
     }
     match text {
         StatusText::Nothing => StatusText::Nothing,
-        StatusText::Written(n) => StatusText::Written(lay_hex(out, n, b" (EXT STS 0x", raw[START])),
+        StatusText::Written(n) => StatusText::Written(lay_hex(
+            out,
+            n,
+            b" (EXT STS 0x",
+            extension[0],
+        )),
         StatusText::Refused(k) => StatusText::Refused(k),
     }
 }
 
-// What is said of a reply that ends before its status.
-fn missing(out: &mut [u8]) -> StatusText
-    ensures { λ r. ⌜ Tells (some (bytes "Unknown Status")) (now (out .entry)) r (now (out .exit)) ⌝ }
+// The status in words, by the part of a reply from it on; nothing where it is success.
+fn status_in(part: &[u8], out: &mut [u8]) -> StatusText
+    ensures { λ r. ⌜ Tells (statusIn (now (part .entry))) (now (out .entry)) r (now (out .exit)) ⌝ }
 {
-    if out.len() < ROOM {
-        return StatusText::Refused(6);
+    if part.len() == 0 {
+        return reply_status_text::say(b"Unknown Status", out);
     }
-    StatusText::Written(base::put_all(out, 0, b"Unknown Status"))
-}
-
-// The status of a raw reply in words; nothing where it is success.
-pub fn request_status(raw: &[u8], out: &mut [u8]) -> StatusText
-    ensures { λ r. ⌜ Tells (statusText (now (raw .entry))) (now (out .entry)) r (now (out .exit)) ⌝ }
-{
-    if raw.len() <= STATUS {
-        return missing(out);
-    }
-    let status = raw[STATUS];
+    let status = part[0];
     if status == 0 {
         return StatusText::Nothing;
     }
     if status == 0xF0 {
-        return extended(raw, out);
+        return extended(reply_part::data(part), out);
     }
     let text = reply_status_text::pccc_error_text(status, out);
     match text {
@@ -91,10 +80,30 @@ pub fn request_status(raw: &[u8], out: &mut [u8]) -> StatusText
     }
 }
 
+// The status of a raw reply.
+pub fn request_status(raw: &[u8], out: &mut [u8]) -> StatusText
+    ensures { λ r. ⌜ Tells (statusText (now (raw .entry))) (now (out .entry)) r (now (out .exit)) ⌝ }
+{
+    status_in(reply_part::of_raw(raw), out)
+}
+
+// The status of a reply that begins with the requester's id.
+pub fn reply_status(reply: &[u8], out: &mut [u8]) -> StatusText
+    ensures { λ r. ⌜ Tells (replyStatus (now (reply .entry))) (now (out .entry)) r (now (out .exit)) ⌝ }
+{
+    status_in(reply_part::of_reply(reply), out)
+}
+
 // The datalog entry of a raw reply.
 pub fn parse_datalog(raw: &[u8]) -> &[u8]
     ensures { λ r. ⌜ now r ≡ datalogEntry (now (raw .entry)) ⌝ }
 {
-    let from = base::least(START, raw.len());
-    &raw[from..]
+    reply_part::data(reply_part::of_raw(raw))
+}
+
+// The datalog entry of a reply that begins with the requester's id.
+pub fn reply_datalog(reply: &[u8]) -> &[u8]
+    ensures { λ r. ⌜ now r ≡ replyDatalog (now (reply .entry)) ⌝ }
+{
+    reply_part::data(reply_part::of_reply(reply))
 }

@@ -2,7 +2,7 @@
 ghost use mathlib.Core.Path.{_≡_};
 ghost use lib.ListN.{length};
 ghost use Rattle.directory.specs.Rows.{listed};
-ghost use Rattle.directory_size.specs.Size.{sizeOf};
+ghost use Rattle.directory_size.specs.Size.{sizeOf, replySize};
 ghost use Rattle.request_untagged.specs.Requests.{directorySize, directoryRead};
 ghost use Rattle.link_texts.specs.WrittenRecords.{Sends, Lists, sizeRecord};
 ghost use Rattle.directory_sys0.specs.Families.{sys0};
@@ -61,6 +61,13 @@ pub extern "C" fn slc_parse_file_directory_size(raw: &[u8], info: Sys0Info) -> S
     ensures { λ r. ⌜ r ≡ sizeRecord (sizeOf (now (raw .entry)) (info .«size_const»)) ⌝ }
 {
     link_texts::size_record(directory_size::parse_file_directory_size(raw, info))
+}
+
+#[no_mangle]
+pub extern "C" fn slc_reply_directory_size(reply: &[u8], info: Sys0Info) -> SlcDirectorySize
+    ensures { λ r. ⌜ r ≡ sizeRecord (replySize (now (reply .entry)) (info .«size_const»)) ⌝ }
+{
+    link_texts::size_record(directory_size::reply_directory_size(reply, info))
 }
 
 #[no_mangle]

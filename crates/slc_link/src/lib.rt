@@ -4,6 +4,7 @@ mod directories;
 mod elements;
 mod file_types;
 mod lines;
+mod questions;
 mod replies;
 mod requests;
 mod simulator;

@@ -17,12 +17,12 @@ use processor_spec::Slc;
 // Builds a processor: 11 to 15 where it is refused.
 #[no_mangle]
 pub extern "C" fn slc_new(
-    files: &[[u32; 3]],
-    text: &[u8],
-    log: &[u8],
-    count: usize,
     table: &mut [FileRecord],
     memory: &mut [u8],
+    log: &[u8],
+    count: usize,
+    files: &[[u32; 3]],
+    text: &[u8],
 ) -> SlcBuilt
     ensures { λ r. ⌜ Raises (newOf (planOf (now (files .entry)) (now (text .entry)) (now (log .entry)) count) (now (table .entry)) (now (memory .entry))) r (now (table .exit)) (now (memory .exit)) ⌝ }
 {
@@ -58,15 +58,15 @@ pub extern "C" fn slc_pccc(
 pub extern "C" fn slc_read(
     slc: Slc,
     table: &[FileRecord],
+    memory: &[u8],
+    log: &[u8],
     at: SlcSpot,
     text: &mut [u8],
-    log: &[u8],
-    memory: &[u8],
 ) -> SlcElement
     ensures { λ r. ⌜ ReadsInNumbers (readIn (ofCode (at .code)) (stateOf slc (now (table .entry)) (now (memory .entry)) (now (log .entry))) at (length (now (text .entry)))) (now (text .entry)) r (now (text .exit)) ⌝ }
 {
     let s = processor_table::survey(table, slc.files, at.number);
-    link_element_access::read_element(slc, s, at, text, log, memory)
+    link_element_access::read_element(slc, s, memory, log, at, text)
 }
 
 // Sets an element; `text` is the text of A and ST, or the name of the field. 16 or 19 to 23 where it is refused.
@@ -74,13 +74,13 @@ pub extern "C" fn slc_read(
 pub extern "C" fn slc_set(
     slc: Slc,
     table: &[FileRecord],
-    to: SlcSetting,
     memory: &mut [u8],
     log: &[u8],
+    to: SlcSetting,
     text: &[u8],
 ) -> u8
     ensures { λ r. ⌜ StoresInNumbers (setIn (ofCode (to .code)) (stateOf slc (now (table .entry)) (now (memory .entry)) (now (log .entry))) to (now (text .entry))) (now (memory .entry)) r (now (memory .exit)) ⌝ }
 {
     let s = processor_table::survey(table, slc.files, to.number);
-    link_element_access::set_element(slc, s, to, memory, log, text)
+    link_element_access::set_element(slc, s, memory, log, to, text)
 }

@@ -394,7 +394,7 @@ static void build(void) {
     slc_file_record *table = (void *)lend_bytes(sim.table_len * sizeof *table);
     uint8_t *memory = lend_bytes(sim.memory_len);
     sealed();
-    slc_built b = slc_new(list, files, type, text_len, log, sim.log_len, count, table, sim.table_len, memory, sim.memory_len);
+    slc_built b = slc_new(table, sim.table_len, memory, sim.memory_len, log, sim.log_len, count, list, files, type, text_len);
     sim.slc = b.slc;
     size_t total = 0;
     if (!refused(b.refused)) {
@@ -475,7 +475,7 @@ static void accesses(void) {
     const slc_file_record *table = lend_table();
     uint8_t *text = lend_bytes(room), *log = lend_log(), *memory = lend_memory();
     sealed();
-    told(1, slc_read(sim.slc, table, sim.table_len, at, text, room, log, sim.log_len, memory, sim.memory_len));
+    told(1, slc_read(sim.slc, table, sim.table_len, memory, sim.memory_len, log, sim.log_len, at, text, room));
     compared();
     calling("slc_set");
     slc_setting to = {at.number, code, at.element, value_of(code)};
@@ -483,7 +483,7 @@ static void accesses(void) {
     memory = lend_memory(), log = lend_log();
     const uint8_t *name = lend_name(&n);
     sealed();
-    if (!refused(slc_set(sim.slc, table, sim.table_len, to, memory, sim.memory_len, log, sim.log_len, name, n)))
+    if (!refused(slc_set(sim.slc, table, sim.table_len, memory, sim.memory_len, log, sim.log_len, to, name, n)))
         may_change(1, f->start + at.element * size, f->start + at.element * size + size);
     memcpy(sim.memory, memory, sim.memory_len);
     compared();

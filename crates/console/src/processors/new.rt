@@ -56,7 +56,7 @@ fn logged(
 
 fn raised(plc_type: &[u8], files: &[[u32; 3]], log: &[u8], count: usize, store: &mut [u8]) -> Made {
     let m = text::within(65535, store);
-    let r = processor_by_value::new_on(files, plc_type, log, count, &mut store[..m]);
+    let r = processor_by_value::new_on(&mut store[..m], log, count, files, plc_type);
     let rows = r.rows;
     let b = r.built;
     keep_rows(rows, store);

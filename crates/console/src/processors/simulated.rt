@@ -24,7 +24,7 @@ pub fn element(w: Spot, text: &mut [u8], store: &[u8]) -> Element {
     let rows = crate::processors::store::rows(store);
     let log = crate::processors::store::log(store);
     let m = text::within(65535, store);
-    processor_by_value::read_on(slc, rows, w, text, &log, &store[..m])
+    processor_by_value::read_on(slc, rows, &store[..m], &log, w, text)
 }
 
 pub fn stored(w: Setting, text: &[u8], store: &mut [u8]) -> Stored {
@@ -32,7 +32,7 @@ pub fn stored(w: Setting, text: &[u8], store: &mut [u8]) -> Stored {
     let rows = crate::processors::store::rows(store);
     let log = crate::processors::store::log(store);
     let m = text::within(65535, store);
-    processor_by_value::set_on(slc, rows, w, &mut store[..m], &log, text)
+    processor_by_value::set_on(slc, rows, &mut store[..m], &log, w, text)
 }
 
 // Of a code that is none, a type that no file has: 19 comes after 16.

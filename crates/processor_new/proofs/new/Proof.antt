@@ -33,10 +33,10 @@ abbrev said : Said built
 said j text count memory r memory′ = ended r memory′ ≡ finishOf j text count memory
 
 abbrev owe : Owes built
-owe files text log count table memory r table′ memory′ = raised r table′ memory′ ≡ newOf (planOf files text log count) table memory
+owe table memory log count files text r table′ memory′ = raised r table′ memory′ ≡ newOf (planOf files text log count) table memory
 
 right : Fits built said owe
-right files text log count table memory j r table′ memory′ e₁ e₂ e₃ = new-is files text log count table memory j r table′ memory′ e₁ e₂ e₃
+right table memory log count files text j r table′ memory′ e₁ e₂ e₃ = new-is files text log count table memory j r table′ memory′ e₁ e₂ e₃
 
 pub new-spec : {M : Type 1} → stated.statement M
 unfolding code.routine tablesOf

@@ -76,17 +76,17 @@ impl Processor {
         let log: [u8; 0] = [];
         let built = unsafe {
             slc_new(
-                files.as_ptr(),
-                files.len(),
-                text.as_ptr(),
-                text.len(),
-                log.as_ptr(),
-                0,
-                0,
                 table.as_mut_ptr(),
                 table.len(),
                 memory.as_mut_ptr(),
                 memory.len(),
+                log.as_ptr(),
+                0,
+                0,
+                files.as_ptr(),
+                files.len(),
+                text.as_ptr(),
+                text.len(),
             )
         };
         assert_eq!(built.refused, 0, "the processor is built");

@@ -29,10 +29,10 @@ abbrev said : Said built
 said j text count memory r memory′ = Finished (finishOf j text count memory) r memory′
 
 abbrev owe : Owes built
-owe files text log count table memory r table′ memory′ = Raises (newOf (planOf files text log count) table memory) r table′ memory′
+owe table memory log count files text r table′ memory′ = Raises (newOf (planOf files text log count) table memory) r table′ memory′
 
 right : Fits built said owe
-right files text log count table memory j r table′ memory′ e₁ e₂ f =
+right table memory log count files text j r table′ memory′ e₁ e₂ f =
     let x : Ended = finishOf j text count memory in
     let n : raised (x .built) table′ (x .memory) ≡ newOf (planOf files text log count) table memory = new-is files text log count table memory j (x .built) table′ (x .memory) e₁ e₂ refl in
     record { answer = f .answer ∙ ap (λ (z : Raised). builtOf (z .built)) n; table = ap (λ (z : Raised). z .table) n; memory = f .memory ∙ ap (λ (z : Raised). z .memory) n }

@@ -1,0 +1,271 @@
+/* Tries the numbers of slc_link.h and the device of slc_device.h on the library; `./slc lib c` builds and runs it. Prints what is wrong, and how many
+ * points are. Exit status 0 only if none is. It is C and C++. */
+#include <slc_device.h>
+#include <stdio.h>
+
+static int points, faults;
+
+static void same(const char *what, unsigned long long is, unsigned long long expected)
+{
+    points++;
+    if (is == expected)
+        return;
+    faults++;
+    printf("FAULT %s: %llu, not %llu\n", what, is, expected);
+}
+
+static const uint8_t *bytes(const char *text)
+{
+    return (const uint8_t *)text;
+}
+
+static uint8_t out[65536];
+static slc_file_record table[SLC_MOST_FILES];
+static uint8_t memory[SLC_MOST_DATA];
+static uint8_t log_memory[SLC_MOST_LOG];
+static uint8_t zeros[65536];
+static uint32_t files[SLC_MOST_FILES][3];
+static uint32_t found[2][4];
+
+/* ---- calls in short */
+
+static uint8_t read_request(const char *tag, size_t room)
+{
+    return slc_read_request(bytes(tag), strlen(tag), slc_default_requestor(), 0, out, room).address.refused;
+}
+
+static uint8_t write_request(const char *tag, uint8_t kind, size_t length, size_t room)
+{
+    return slc_write_request(bytes(tag), strlen(tag), kind, zeros, length, slc_default_requestor(), 0, out, room).address.refused;
+}
+
+static uint8_t directory_read(size_t offset, size_t room)
+{
+    return slc_file_directory_read_request(1, offset, 1, slc_default_requestor(), 0, out, room).refused;
+}
+
+static uint8_t directory(size_t row_size, size_t length, size_t room)
+{
+    return slc_parse_file_directory(0, row_size, zeros, length, found, room).refused;
+}
+
+static uint8_t built_with(size_t records, size_t data, const char *type_text, size_t log_len, size_t count, size_t files_len)
+{
+    return slc_new(table, records, memory, data, log_memory, log_len, count, (const uint32_t(*)[3])files, files_len,
+                   bytes(type_text), strlen(type_text)).refused;
+}
+
+static uint8_t built(uint32_t number, uint32_t code, uint32_t elements, const char *type_text)
+{
+    files[0][0] = number;
+    files[0][1] = code;
+    files[0][2] = elements;
+    return built_with(SLC_MOST_FILES, SLC_MOST_DATA, type_text, 0, 0, 1);
+}
+
+static slc_value value(uint8_t kind, int64_t a)
+{
+    slc_value v;
+    v.kind = kind;
+    v.a = a;
+    v.b = v.c = 0;
+    return v;
+}
+
+static uint8_t encoded(uint8_t code, slc_value v, const char *text, size_t length)
+{
+    return slc_encode_element(code, v, bytes(text), strlen(text), out, length);
+}
+
+/* ---- the sizes: as much is enough, and one less is not */
+
+static void rooms(void)
+{
+    slc_requestor q = slc_default_requestor();
+    slc_sys0 info = slc_sys0_info(zeros, 0);
+    size_t room = SLC_REQUEST_ROOM;
+    same("SLC_REQUEST_ROOM", read_request("N7:0", room), 0);
+    same("less for slc_read_request", read_request("N7:0", room - 1), SLC_REFUSED_OUTPUT_ROOM);
+    same("less for slc_processor_type_request", slc_processor_type_request(q, 0, out, room - 1).refused, SLC_REFUSED_OUTPUT_ROOM);
+    same("less for slc_datalog_request", slc_datalog_request(0, out, room - 1).refused, SLC_REFUSED_OUTPUT_ROOM);
+    same("less for slc_file_directory_size_request", slc_file_directory_size_request(info, q, 0, out, room - 1).refused, SLC_REFUSED_OUTPUT_ROOM);
+    same("less for slc_file_directory_read_request", directory_read(0, room - 1), SLC_REFUSED_OUTPUT_ROOM);
+    same("enough for slc_processor_type_request", slc_processor_type_request(q, 0, out, room).refused, 0);
+    same("enough for slc_datalog_request", slc_datalog_request(0, out, room).refused, 0);
+    same("enough for slc_file_directory_size_request", slc_file_directory_size_request(info, q, 0, out, room).refused, 0);
+    same("enough for slc_file_directory_read_request", directory_read(0, room), 0);
+    same("SLC_WRITE_ROOM", write_request("N7:0", SLC_RAW, 257, SLC_WRITE_ROOM), 0);
+    same("less for slc_write_request", write_request("N7:0", SLC_RAW, 4, SLC_WRITE_ROOM - 1), SLC_REFUSED_OUTPUT_ROOM);
+    same("SLC_STATUS_ROOM", slc_error_text(0x10, out, SLC_STATUS_ROOM).refused, 0);
+    same("less for slc_error_text", slc_error_text(0x10, out, SLC_STATUS_ROOM - 1).refused, SLC_REFUSED_OUTPUT_ROOM);
+    same("SLC_STATUS_ROOM for slc_request_status", slc_request_status(zeros, 0, out, SLC_STATUS_ROOM).refused, 0);
+    same("less for slc_request_status", slc_request_status(zeros, 0, out, SLC_STATUS_ROOM - 1).refused, SLC_REFUSED_OUTPUT_ROOM);
+    same("SLC_TEXT_ROOM", slc_decode_element(SLC_TYPE_ST, zeros, 84, out, SLC_TEXT_ROOM).refused, 0);
+    same("less for slc_decode_element", slc_decode_element(SLC_TYPE_ST, zeros, 84, out, SLC_TEXT_ROOM - 1).refused, SLC_REFUSED_TEXT_ROOM);
+    same("SLC_TAG_ROOM", slc_tags_finish(slc_tags_feed(slc_line_empty(), bytes("N"), 1, out, SLC_TAG_ROOM).line, out, SLC_TAG_ROOM) > 0, 1);
+    same("SLC_TAG_ROOM for each byte", slc_tags_feed(slc_line_empty(), zeros, 9, out, 9 * SLC_TAG_ROOM).taken, 9);
+    same("less for slc_tags_feed", slc_tags_feed(slc_line_empty(), zeros, 9, out, 9 * SLC_TAG_ROOM - 1).taken, 8);
+    same("less for slc_tags_finish", slc_tags_finish(slc_tags_feed(slc_line_empty(), bytes("N"), 1, out, SLC_TAG_ROOM).line, out, SLC_TAG_ROOM - 1), 0);
+}
+
+/* the most that a processor has: as many files, bytes and entries are built, and one more is not */
+static void most(void)
+{
+    uint32_t i;
+    for (i = 0; i < SLC_MOST_FILES; i++) {
+        files[i][0] = i;
+        files[i][1] = SLC_TYPE_N;
+        files[i][2] = 1;
+    }
+    same("SLC_MOST_FILES", built_with(SLC_MOST_FILES, SLC_MOST_DATA, "", 0, 0, SLC_MOST_FILES), 0);
+    same("a table of one record less", built_with(SLC_MOST_FILES - 1, SLC_MOST_DATA, "", 0, 0, SLC_MOST_FILES), SLC_REFUSED_DATA_ROOM);
+    /* every element has an even number of bytes */
+    same("SLC_MOST_DATA", built(7, SLC_TYPE_N, SLC_MOST_DATA / 2, ""), 0);
+    same("more data", built(7, SLC_TYPE_N, SLC_MOST_DATA / 2 + 1, ""), SLC_REFUSED_DATA_ROOM);
+    same("SLC_MOST_DATA of a directory", directory(3, SLC_MOST_DATA, 0), 0);
+    same("a longer directory", directory(3, SLC_MOST_DATA + 1, 0), SLC_REFUSED_DIRECTORY_LENGTH);
+    same("SLC_MOST_DATA as an offset", directory_read(SLC_MOST_DATA, SLC_REQUEST_ROOM), 0);
+    same("a higher offset", directory_read(SLC_MOST_DATA + 1, SLC_REQUEST_ROOM), SLC_REFUSED_OFFSET);
+    for (i = 0; i < SLC_MOST_ENTRIES; i++)
+        log_memory[i * (SLC_MOST_LOG / SLC_MOST_ENTRIES)] = 255;
+    same("SLC_MOST_ENTRIES in SLC_MOST_LOG", built_with(SLC_MOST_FILES, SLC_MOST_DATA, "", SLC_MOST_LOG, SLC_MOST_ENTRIES, 0), 0);
+    same("a byte less for them", built_with(SLC_MOST_FILES, SLC_MOST_DATA, "", SLC_MOST_LOG - 1, SLC_MOST_ENTRIES, 0), SLC_REFUSED_DATALOG);
+    memset(log_memory, 0, sizeof log_memory);
+    same("empty entries", built_with(SLC_MOST_FILES, SLC_MOST_DATA, "", SLC_MOST_LOG, SLC_MOST_ENTRIES, 0), 0);
+    same("an entry more", built_with(SLC_MOST_FILES, SLC_MOST_DATA, "", SLC_MOST_LOG, SLC_MOST_ENTRIES + 1, 0), SLC_REFUSED_DATALOG);
+}
+
+/* ---- each refusal, by a call that it stands for (those of a processor are with the device) */
+
+static void refusals(void)
+{
+    same("TAG_BYTES", slc_parse_tag(zeros, 256).refused, SLC_REFUSED_TAG_BYTES);
+    same("TAG", slc_parse_tag(bytes("N7"), 2).refused, SLC_REFUSED_TAG);
+    same("BIT_COUNT", read_request("N7:0/3{2}", SLC_REQUEST_ROOM), SLC_REFUSED_BIT_COUNT);
+    same("VALUE", write_request("N7:0", SLC_TRUE, 0, SLC_WRITE_ROOM), SLC_REFUSED_VALUE);
+    same("SIZE", read_request("N7:0{128}", SLC_REQUEST_ROOM), SLC_REFUSED_SIZE);
+    same("SIZE of raw bytes", write_request("N7:0", SLC_RAW, 258, SLC_WRITE_ROOM), SLC_REFUSED_SIZE);
+    same("ROW_SIZE", directory(0, 3, 1), SLC_REFUSED_ROW_SIZE);
+    zeros[0] = zeros[3] = SLC_TYPE_N;
+    same("ROW_CUT", directory(3, 2, 1), SLC_REFUSED_ROW_CUT);
+    same("FILES_ROOM", directory(3, 6, 1), SLC_REFUSED_FILES_ROOM);
+    zeros[0] = zeros[3] = 0;
+    same("FILE_TYPE", built(7, SLC_TYPE_MG, 1, ""), SLC_REFUSED_FILE_TYPE);
+    same("FILE_NUMBER", built(256, SLC_TYPE_N, 1, ""), SLC_REFUSED_FILE_NUMBER);
+    same("TYPE_TEXT", built(7, SLC_TYPE_N, 1, "1747-L552/C2"), SLC_REFUSED_TYPE_TEXT);
+    same("NO_ELEMENT", encoded(SLC_TYPE_N, value(SLC_WHOLE, 0), "", 1), SLC_REFUSED_NO_ELEMENT);
+    same("KIND", encoded(SLC_TYPE_N, value(SLC_FLOAT, 0), "", 2), SLC_REFUSED_KIND);
+    same("FIELD", encoded(SLC_TYPE_T, value(SLC_FIELD, 0), "XX", 6), SLC_REFUSED_FIELD);
+    same("NUMBER", encoded(SLC_TYPE_N, value(SLC_WHOLE, 65536), "", 2), SLC_REFUSED_NUMBER);
+    same("TEXT_LENGTH", slc_encode_element(SLC_TYPE_ST, value(SLC_TEXT, 0), zeros, 83, out, 84), SLC_REFUSED_TEXT_LENGTH);
+    same("REPLY_LENGTH", slc_parse_file_directory_size(zeros, 62, slc_sys0_info(zeros, 0)).refused, SLC_REFUSED_REPLY_LENGTH);
+}
+
+static void type(uint8_t code, const char *name)
+{
+    slc_file_type t = slc_type_of_code(code);
+    same(name, t.known && t.name_len == strlen(name) && !memcmp(t.name, name, t.name_len), 1);
+}
+
+static void types(void)
+{
+    type(SLC_TYPE_O, "O"), type(SLC_TYPE_I, "I"), type(SLC_TYPE_S, "S"), type(SLC_TYPE_B, "B"), type(SLC_TYPE_T, "T");
+    type(SLC_TYPE_C, "C"), type(SLC_TYPE_R, "R"), type(SLC_TYPE_N, "N"), type(SLC_TYPE_F, "F"), type(SLC_TYPE_ST, "ST");
+    type(SLC_TYPE_A, "A"), type(SLC_TYPE_L, "L"), type(SLC_TYPE_MG, "MG"), type(SLC_TYPE_PD, "PD"), type(SLC_TYPE_PLS, "PLS");
+}
+
+/* ---- the device */
+
+static slc_device device, other;
+static uint8_t reply[SLC_REPLY_ROOM];
+
+static const uint32_t two_files[][3] = {{7, SLC_TYPE_N, 10}, {14, SLC_TYPE_ST, 2}};
+/* two entries: `one`, and `two` with a length of 3 */
+static const uint8_t entries[] = {3, 0, 'o', 'n', 'e', 3, 0, 't', 'w', 'o'};
+
+/* the length of the reply to a message's command, or 1000 and the number where it is refused */
+static size_t ask(const uint8_t *message, size_t length)
+{
+    slc_written answer = slc_device_pccc(&device, message + SLC_COMMAND_AT, length - SLC_COMMAND_AT, reply, sizeof reply);
+    return answer.refused ? 1000u + answer.refused : answer.length;
+}
+
+static void write_and_read_back(void)
+{
+    const uint8_t masked[] = {0xFF, 0xFF, 0x17, 0x00};
+    uint8_t message[SLC_WRITE_ROOM], text[SLC_TEXT_ROOM];
+    slc_element element;
+    slc_request request = slc_write_request(bytes("N7:3"), 4, SLC_RAW, masked, sizeof masked, slc_default_requestor(), 1, message, sizeof message);
+    same("a write", ask(message, request.length), SLC_DATA_AT);
+    request = slc_read_request(bytes("N7:3"), 4, slc_default_requestor(), 2, message, sizeof message);
+    same("a read", ask(message, request.length), SLC_DATA_AT + 2);
+    same("the word at SLC_DATA_AT", reply[SLC_DATA_AT] + 256u * reply[SLC_DATA_AT + 1], 0x17);
+    element = slc_device_read(&device, 7, SLC_TYPE_N, 3, NULL, 0);
+    same("the element", !element.refused && element.kind == SLC_WHOLE && element.whole == 0x17, 1);
+    same("setting a text", slc_device_set(&device, 14, SLC_TYPE_ST, 1, value(SLC_TEXT, 0), bytes("share"), 5), 0);
+    element = slc_device_read(&device, 14, SLC_TYPE_ST, 1, text, sizeof text);
+    same("the text", !element.refused && element.kind == SLC_TEXT && element.length == 5 && !memcmp(text, "share", 5), 1);
+    same("less for slc_read", slc_device_read(&device, 14, SLC_TYPE_ST, 1, text, sizeof text - 1).refused, SLC_REFUSED_TEXT_ROOM);
+    same("setting an element that isn't there", slc_device_set(&device, 7, SLC_TYPE_N, 10, value(SLC_WHOLE, 0), NULL, 0), SLC_REFUSED_NO_ELEMENT);
+}
+
+/* each entry once, the oldest first, and then none: so the processor is kept from call to call */
+static void take_entries(void)
+{
+    uint8_t message[SLC_REQUEST_ROOM];
+    size_t length = slc_datalog_request(0, message, sizeof message).length;
+    slc_part part;
+    same("the first entry", ask(message, length), SLC_DATA_AT + 3);
+    same("it is `one`", !memcmp(reply + SLC_DATA_AT, "one", 3), 1);
+    other = device;
+    same("the second entry", ask(message, length), SLC_DATA_AT + 3);
+    same("it is `two`", !memcmp(reply + SLC_DATA_AT, "two", 3), 1);
+    same("no third entry", ask(message, length), SLC_DATA_AT);
+    same("the reply's status says so", reply[SLC_DATA_AT - 3], 0x10);
+    device = other;
+    same("a copy has the second entry still", ask(message, length), SLC_DATA_AT + 3);
+    /* with its encapsulation in front */
+    memset(out, 0, 50);
+    memcpy(out + 50, reply, SLC_DATA_AT + 3);
+    part = slc_parse_datalog(out, 50 + SLC_DATA_AT + 3);
+    same("slc_parse_datalog finds it", part.length == 3 && !memcmp(out + part.from, "two", 3), 1);
+}
+
+static void refused_commands(void)
+{
+    same("no command", slc_device_pccc(&device, NULL, 0, reply, sizeof reply).refused, SLC_REFUSED_COMMAND);
+    same("SLC_REPLY_ROOM", slc_device_pccc(&device, bytes("\1\0\0\0\0"), 5, reply, SLC_REPLY_ROOM).refused, 0);
+    same("less for slc_pccc", slc_device_pccc(&device, bytes("\1\0\0\0\0"), 5, reply, SLC_REPLY_ROOM - 1).refused, SLC_REFUSED_REPLY_ROOM);
+    same("no reply memory", slc_device_pccc(&device, bytes("\1\0\0\0\0"), 5, NULL, 0).refused, SLC_REFUSED_REPLY_ROOM);
+}
+
+static void no_processor(const char *what)
+{
+    same(what, slc_device_pccc(&device, bytes("\1\0\0\0\0"), 5, reply, sizeof reply).refused, SLC_REFUSED_UNSOUND);
+    same("a read of it", slc_device_read(&device, 7, SLC_TYPE_N, 0, NULL, 0).refused, SLC_REFUSED_UNSOUND);
+    same("a set of it", slc_device_set(&device, 7, SLC_TYPE_N, 0, value(SLC_WHOLE, 1), NULL, 0), SLC_REFUSED_UNSOUND);
+}
+
+static void devices(void)
+{
+    no_processor("a device of zeros");
+    same("building", slc_device_new(&device, two_files, 2, "1747-L552", entries, sizeof entries, 2), 0);
+    write_and_read_back();
+    take_entries();
+    refused_commands();
+    same("a log of an entry too many", slc_device_new(&device, two_files, 2, "1747-L552", entries, sizeof entries, 3), SLC_REFUSED_DATALOG);
+    no_processor("a device that was refused");
+    same("a log that is longer than it needs", slc_device_new(&device, NULL, 0, "", zeros, sizeof zeros, 1), 0);
+    same("the default files", slc_device_read(&device, 7, SLC_TYPE_N, 0, NULL, 0).refused, 0);
+}
+
+int main(void)
+{
+    rooms();
+    most();
+    refusals();
+    types();
+    devices();
+    printf("test_slc_link: %d of %d points are wrong\n", faults, points);
+    return faults ? 1 : 0;
+}
