@@ -174,19 +174,29 @@ slc_request slc_write_request(const uint8_t *tag, size_t tag_len, uint8_t kind, 
 slc_written slc_processor_type_request(slc_requestor q, uint16_t sequence, uint8_t *out, size_t out_len);
 slc_written slc_datalog_request(uint8_t queue, uint8_t *out, size_t out_len);
 
-/* ---- replies: `raw` is the whole message of a connected reply, from its encapsulation header on, with the PCCC reply from byte 50 on ---- */
+/* ---- replies: `raw` is the whole message of a connected reply, from its encapsulation header on, with the PCCC reply from byte 50 on; `reply` is
+   that PCCC reply alone, from the requester's id on, whose first byte is its length ---- */
 
-/* The status of a connected reply with its encapsulation, in words, nothing for success; `out` needs SLC_STATUS_ROOM bytes for a text. Refused:
-   6. */
+/* The status of a connected reply with its encapsulation (PCCC from byte 50 on), in words, nothing for success; `out` needs SLC_STATUS_ROOM bytes
+   for a text. Refused: 6. */
 slc_written slc_request_status(const uint8_t *raw, size_t raw_len, uint8_t *out, size_t out_len);
+
+/* The status of a reply from the requester's id on, as slc_pccc gives it, in the same words. Refused: 6. */
+slc_written slc_reply_status(const uint8_t *reply, size_t reply_len, uint8_t *out, size_t out_len);
 
 /* The text of a status code, nothing where it has none; `out` needs SLC_STATUS_ROOM bytes for a text. Refused: 6. */
 slc_written slc_error_text(uint8_t status, uint8_t *out, size_t out_len);
 
 typedef struct { size_t from, length; } slc_part;
 
-/* The datalog entry of a connected reply with its encapsulation: a part of it. */
+/* The datalog entry of a connected reply with its encapsulation (PCCC from byte 50 on): a part of it. */
 slc_part slc_parse_datalog(const uint8_t *raw, size_t raw_len);
+
+/* The same of a reply from the requester's id on, as slc_pccc gives it. */
+slc_part slc_reply_datalog(const uint8_t *reply, size_t reply_len);
+
+/* The question of a number, in words, nothing where the number is none; `out` needs SLC_STATUS_ROOM bytes for a text. Refused: 6. */
+slc_written slc_question(uint8_t number, uint8_t *out, size_t out_len);
 
 /* ---- the file directory, as a client reads it ---- */
 
@@ -210,8 +220,12 @@ slc_written slc_file_directory_size_request(slc_sys0 info, slc_requestor q, uint
 /* The message that reads `size` bytes of the directory from an offset on; `out` needs SLC_REQUEST_ROOM bytes. Refused: 26, 6. */
 slc_written slc_file_directory_read_request(uint8_t file_type, size_t offset, uint8_t size, slc_requestor q, uint16_t sequence, uint8_t *out, size_t out_len);
 
-/* The directory's size in a connected reply with its encapsulation, less what the processor adds; it may be negative. Refused: 25. */
+/* The directory's size in a connected reply with its encapsulation (PCCC from byte 50 on), less what the processor adds; it may be negative.
+   Refused: 25. */
 slc_directory_size slc_parse_file_directory_size(const uint8_t *raw, size_t raw_len, slc_sys0 info);
+
+/* The same of a reply from the requester's id on, as slc_pccc gives it. Refused: 25, where it ends before the two bytes of the size. */
+slc_directory_size slc_reply_directory_size(const uint8_t *reply, size_t reply_len, slc_sys0 info);
 
 /* The files of a directory's rows, each as type code, number, elements and length in bytes; `length` counts files. Refused: 7 to 10. */
 slc_written slc_parse_file_directory(size_t file_position, size_t row_size, const uint8_t *bytes, size_t bytes_len, uint32_t (*out)[4], size_t out_len);

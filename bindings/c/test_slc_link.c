@@ -135,6 +135,16 @@ static void most(void)
     same("an entry more", built_with(SLC_MOST_FILES, SLC_MOST_DATA, "", SLC_MOST_LOG, SLC_MOST_ENTRIES + 1, 0), SLC_REFUSED_DATALOG);
 }
 
+/* each number up to the last one has a question, and no other number has one */
+static void questions(void)
+{
+    unsigned n;
+    for (n = 0; n < 256; n++)
+        same("a question of the number", slc_question((uint8_t)n, out, SLC_STATUS_ROOM).length > 0, n >= SLC_REFUSED_TAG_BYTES && n <= SLC_REFUSED_OFFSET);
+    same("less for slc_question", slc_question(SLC_REFUSED_COMMAND, out, SLC_STATUS_ROOM - 1).refused, SLC_REFUSED_OUTPUT_ROOM);
+    same("the longest question", slc_question(SLC_REFUSED_COMMAND, out, SLC_STATUS_ROOM).length, 89);
+}
+
 /* ---- each refusal, by a call that it stands for (those of a processor are with the device) */
 
 static void refusals(void)
@@ -215,13 +225,19 @@ static void take_entries(void)
     uint8_t message[SLC_REQUEST_ROOM];
     size_t length = slc_datalog_request(0, message, sizeof message).length;
     slc_part part;
+    slc_written status;
     same("the first entry", ask(message, length), SLC_DATA_AT + 3);
     same("it is `one`", !memcmp(reply + SLC_DATA_AT, "one", 3), 1);
+    part = slc_reply_datalog(reply, SLC_DATA_AT + 3);
+    same("slc_reply_datalog finds it", part.from == SLC_DATA_AT && part.length == 3, 1);
+    same("slc_reply_status has no words for success", slc_reply_status(reply, SLC_DATA_AT + 3, out, SLC_STATUS_ROOM).length, 0);
     other = device;
     same("the second entry", ask(message, length), SLC_DATA_AT + 3);
     same("it is `two`", !memcmp(reply + SLC_DATA_AT, "two", 3), 1);
     same("no third entry", ask(message, length), SLC_DATA_AT);
     same("the reply's status says so", reply[SLC_DATA_AT - 3], 0x10);
+    status = slc_reply_status(reply, SLC_DATA_AT, out, SLC_STATUS_ROOM);
+    same("slc_reply_status says it in words", status.length > 15 && !memcmp(out, "Illegal Command", 15), 1);
     device = other;
     same("a copy has the second entry still", ask(message, length), SLC_DATA_AT + 3);
     /* with its encapsulation in front */
@@ -229,6 +245,21 @@ static void take_entries(void)
     memcpy(out + 50, reply, SLC_DATA_AT + 3);
     part = slc_parse_datalog(out, 50 + SLC_DATA_AT + 3);
     same("slc_parse_datalog finds it", part.length == 3 && !memcmp(out + part.from, "two", 3), 1);
+}
+
+/* the directory's size, which the processor of two files with rows of ten bytes has, from a reply as it is and with its encapsulation in front */
+static void directory_size(void)
+{
+    uint8_t message[SLC_REQUEST_ROOM];
+    slc_sys0 info = slc_sys0_info(bytes("1747-L552"), 9);
+    size_t length = ask(message, slc_file_directory_size_request(info, slc_default_requestor(), 3, message, sizeof message).length);
+    slc_directory_size bare = slc_reply_directory_size(reply, length, info), whole;
+    memset(out, 0, 50);
+    memcpy(out + 50, reply, length);
+    whole = slc_parse_file_directory_size(out, 50 + length, info);
+    same("the directory's size", !bare.refused && bare.bytes > 0, 1);
+    same("the same with the encapsulation", whole.refused == bare.refused && whole.bytes == bare.bytes, 1);
+    same("a reply without it", slc_reply_directory_size(reply, SLC_DATA_AT, info).refused, SLC_REFUSED_REPLY_LENGTH);
 }
 
 static void refused_commands(void)
@@ -252,6 +283,7 @@ static void devices(void)
     same("building", slc_device_new(&device, two_files, 2, "1747-L552", entries, sizeof entries, 2), 0);
     write_and_read_back();
     take_entries();
+    directory_size();
     refused_commands();
     same("a log of an entry too many", slc_device_new(&device, two_files, 2, "1747-L552", entries, sizeof entries, 3), SLC_REFUSED_DATALOG);
     no_processor("a device that was refused");
@@ -264,6 +296,7 @@ int main(void)
     rooms();
     most();
     refusals();
+    questions();
     types();
     devices();
     printf("test_slc_link: %d of %d points are wrong\n", faults, points);

@@ -1,13 +1,15 @@
 #!/usr/bin/env python3
-"""console.py < lines: answers the lines of oracle/PROTOCOL.md through slc_link.py, one answer a line, as `./slc console` does. So the library for C can
+"""console.py < lines: answers the lines of oracle/PROTOCOL.md through slc_link, one answer a line, as `./slc console` does. So the library for C can
 be held to the stored sample, and to the Rust:
 
     CONSOLE='python3 bindings/python/console.py' oracle/bin/compare SEED N
 """
 import re
 import sys
+from ctypes import c_uint8
 
 import slc_link as slc
+from slc_link._c import slc_file_record
 
 LONGEST_LINE = 262144
 WIDE, SIGNED, LOG_ROOM = 2**64 - 1, 2**63, 64 * 257
@@ -62,7 +64,8 @@ def file_list(text):
     def file(part):
         a, b, c = (part.split(b":", 2) + [b"", b""])[:3]
         # C has 32 bits for each number; what has more is too large in any case
-        return code(a), min(unsigned(b), 2**32 - 1), min(unsigned(c), 2**32 - 1)
+        type_code, number, elements = code(a), unsigned(b), unsigned(c)
+        return min(number, 2**32 - 1), type_code, min(elements, 2**32 - 1)
     return [] if text == b"-" else [file(part) for part in text.split(b",")]
 
 
@@ -152,9 +155,9 @@ class Sim:
         self.processor = None
         p = slc.Processor(files, text, log)
         # as the console's, which `spoil` can then damage alike
-        p._table = padded(p._table, slc.slc_file_record, slc.MOST_FILES)
-        p._memory = padded(p._memory, slc.c_uint8, slc.MOST_DATA)
-        p._log = padded(p._log, slc.c_uint8, LOG_ROOM)
+        p._table = padded(p._table, slc_file_record, slc.MOST_FILES)
+        p._memory = padded(p._memory, c_uint8, slc.MOST_DATA)
+        p._log = padded(p._log, c_uint8, LOG_ROOM)
         self.processor = p
 
     def there(self):
@@ -190,7 +193,7 @@ class Sim:
         if kind == "record":
             i, number, code, start, length = values
             if i < slc.MOST_FILES:
-                p._table[i] = slc.slc_file_record(number % 65536, code, start % 65536, length % 65536)
+                p._table[i] = slc_file_record(number % 65536, code, start % 65536, length % 65536)
         elif kind in ("text", "log"):
             memory = p._slc.type_text if kind == "text" else p._log
             if values[0] < len(memory):

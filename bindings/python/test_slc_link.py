@@ -1,12 +1,23 @@
-"""Tests of slc_link.py against the library: python3 -m unittest discover -s bindings/python"""
+"""Tests of slc_link against the library: python3 -m unittest discover -s bindings/python"""
+import copy
 import doctest
+import os
+import pickle
+import re
+import shutil
+import subprocess
+import sys
+import tempfile
+import threading
+import time
 import unittest
+from unittest import mock
 from ctypes import Array, Structure, c_uint8, c_uint32
 from pathlib import Path
 
 import slc_link
 from slc_link import *
-from slc_link import Field, FileCode as Code
+from slc_link import _c, FileCode as Code
 
 W1 = bytes.fromhex("4B 02 20 67 24 01 07 09 10 09 10 19 71 0F 00 34 12 A2 02 07 89 00 00")
 BAD = bytes.fromhex("07 09 10 09 10 19 71 4F F0 00 00 06")
@@ -41,18 +52,66 @@ class Numbers(Refusing):
     def test_refusals_have_their_questions(self):
         self.assertEqual(str(Refused(26)), "refused 26: Is the offset at most 65,535? No.")
         self.assertEqual(str(Refused(27)), "refused 27")
+        self.assertEqual([str(Refused(n)) for n in (-1, 0, 256)], ["refused -1", "refused 0", "refused 256"])
+        self.assertEqual(question_of(Refusal.UNSOUND), "Is the processor sound?")
+        self.assertEqual([n for n in range(256) if question_of(n)], list(Refusal))
+        self.refused(6, question_of, 1, room=95)
 
     def test_numbers_that_c_cannot_hold_are_not_cut(self):
         for call in (lambda: type_of_code(256), lambda: type_of_code(-1), lambda: bit_name(Code.T, 2**64),
                      lambda: encode_element(Code.L, 2**63, bytes(4)), lambda: encode_element(Code.F, Float(2**32), bytes(4)),
-                     lambda: read_request("N7:0", sequence=65536), lambda: Processor([(Code.N, 2**32, 1)]),
+                     lambda: read_request("N7:0", sequence=65536), lambda: Processor([(2**32, Code.N, 1)]),
                      lambda: Processor().read(65536, Code.N, 0), lambda: Processor().set(7, Code.N, -1, 0)):
             self.assertRaises(OverflowError, call)
+
+    def test_the_error_says_what_is_out_of_range(self):
+        with self.assertRaises(OutOfRange) as raised:
+            read_request("N7:0", sequence=65536)
+        self.assertEqual(str(raised.exception), "sequence is 0 to 65535, not 65536")
+        self.assertIsInstance(raised.exception, ValueError)
+        with self.assertRaisesRegex(OutOfRange, "a file's number is 0 to 4294967295, not -1"):
+            Processor([(-1, Code.N, 1)])
+
+    def test_a_requester_is_not_cut(self):
+        self.assertRaises(OutOfRange, read_request, "N7:0", requestor=([300, 1], b"1234"))
+        self.assertRaises(TypeError, read_request, "N7:0", requestor=([1.9, 1], b"1234"))
+        self.assertRaises(TypeError, read_request, "N7:0", requestor=("ab", b"1234"))
+        self.assertRaises(ValueError, read_request, "N7:0", requestor=(b"\1\2\3", b"1234"))
+        self.assertEqual(processor_type_request(([1, 2], bytearray(b"\3\4\5\6")))[6:13].hex(), "07010203040506")
+
+    def test_what_is_no_whole_number(self):
+        for bad in (1.9, 1.0, "5", None, True, b"\1"):
+            for call in (lambda: type_of_code(bad), lambda: bit_name(Code.T, bad), lambda: read_request("N7:0", sequence=bad),
+                         lambda: datalog_request(bad), lambda: file_directory_read_request(1, bad, 1), lambda: Processor([(bad, Code.N, 1)]),
+                         lambda: Processor([(7, Code.N, bad)]), lambda: Processor().read(bad, Code.N, 0), lambda: Processor().set(7, Code.N, bad, 0),
+                         lambda: encode_element(Code.N, Whole(bad), bytes(2)), lambda: encode_element(Code.F, Float(bad), bytes(4)),
+                         lambda: encode_element(Code.T, Words(0, bad, 0), bytes(6)), lambda: string_swap(b"", room=bad or 1.5),
+                         lambda: parse_file_directory(0, bad, b""), lambda: file_directory_size_request(sys0_info("")._replace(size_len=bad))):
+                self.assertRaises(TypeError, call)
+
+    def test_what_has_an_index_is_a_number(self):
+        class Seven:
+            def __index__(self):
+                return 7
+        self.assertEqual(Processor().read(Seven(), Code.N, 0), Whole(0))
+        self.assertEqual(type_of_code(Code.N), type_of_code(0x89))
+
+    def test_true_and_false(self):
+        self.assertRaises(TypeError, encode_element, Code.N, True, bytes(2))
+        self.assertRaises(TypeError, Processor().set, 7, Code.N, 0, False)
+        for bit in (True, False):
+            self.assertEqual(encode_element(Code.T, Field("EN", bit), bytes(6)), encode_element(Code.T, Field("EN", int(bit)), bytes(6)))
+
+    def test_floats(self):
+        self.assertRaises(OutOfRange, Float.of, 1e39)
+        self.assertRaises(OutOfRange, Processor().set, 8, Code.F, 0, -1e39)
+        self.assertEqual(Float.of(0.1), Float(0x3DCCCCCD))
 
     def test_other_values_are_no_bytes(self):
         self.assertRaises(TypeError, parse_tag, 5)
         self.assertRaises(TypeError, write_request, "N7:0", "text")
         self.assertRaises(TypeError, encode_element, Code.N, None, bytes(2))
+        self.assertRaises(UnicodeEncodeError, Processor().set, 7, Code.N, 0, "\u20ac")
         self.assertRaises(ValueError, read_request, "N7:0", requestor=(b"\1", b"1234"))
 
 
@@ -174,6 +233,36 @@ class Replies(Refusing):
         self.assertEqual(error_text(0x70), "Processor is in Program mode")
         self.assertIsNone(error_text(0x11))
 
+    def replies(self, function, **built):
+        """The replies of a processor to a command, behind ids of these many bytes, which count themselves."""
+        for length in (7, 1, 2, 8, 255):
+            requester = bytes(range(length, 0, -1))
+            yield Processor(type_text="1747-L552", **built).pccc(requester + command(function)[7:])
+
+    def test_from_the_id_on(self):
+        info = sys0_info("1747-L552")
+        for reply in self.replies("A2 02 07 89 64 00"):
+            self.assertEqual(reply_status(reply), "Error code in EXT STS Byte (EXT STS 0x06)")
+            self.refused(6, reply_status, reply, room=95)
+            self.refused(25, reply_directory_size, reply, info)
+        for reply in self.replies("A2 6D 00 A5 00 00", datalog=[b"ABC"]):
+            self.assertEqual((reply_status(reply, room=0), reply_datalog(reply)), (None, b"ABC"))
+        for reply in self.replies(f"A1 02 00 {info.file_type:02X} {info.size_element:02X}"):
+            self.assertEqual(reply_directory_size(reply, info), 0xA9)
+        self.assertEqual((reply_status(b""), reply_datalog(b""), reply_datalog(b"\t\1")), ("Unknown Status", b"", b""))
+
+    def test_raw_replies_are_those_behind_50_bytes(self):
+        info = sys0_info("1766")
+        for status in range(256):
+            whole = bytes.fromhex("07 09 10 09 10 19 71 4F") + bytes([status, 1, 2, status ^ 255, 4, 5])
+            for reply in (whole[:n] for n in range(8, len(whole) + 1)):
+                raw = 50 * b"\xEE" + reply
+                self.assertEqual((reply_status(reply), reply_datalog(reply)), (request_status(raw), parse_datalog(raw)))
+                if len(reply) < 13:
+                    self.refused(25, reply_directory_size, reply, info)
+                else:
+                    self.assertEqual(reply_directory_size(reply, info), parse_file_directory_size(raw, info))
+
     def test_datalog(self):
         self.assertEqual(parse_datalog(bytes(61) + b"ABC"), b"ABC")
         self.assertEqual(parse_datalog(bytes(61)), b"")
@@ -185,7 +274,7 @@ class Replies(Refusing):
         self.assertEqual(parse_file_directory_size(raw, sys0_info("1766")), 0xA9 - 19968)
         self.refused(25, parse_file_directory_size, raw[:62], sys0_info(""))
         rows = bytes.fromhex("EE 82 04 00 81 00 00 89 06 00")
-        self.assertEqual(parse_file_directory(1, 3, rows), [(Code.O, 0, 2, 4), (Code.N, 2, 3, 6)])
+        self.assertEqual(parse_file_directory(1, 3, rows), [(0, Code.O, 2, 4), (2, Code.N, 3, 6)])
         self.refused(7, parse_file_directory, 1, 3, bytes(65536))
         self.refused(8, parse_file_directory, 1, 0, rows)
         self.refused(9, parse_file_directory, 1, 3, rows[:9])
@@ -204,7 +293,7 @@ class Processors(Refusing):
         self.assertEqual(processor.pccc(command("A2 02 07 89 64 00")), BAD)
 
     def test_w9_masked_write(self):
-        processor = Processor([File(Code.N, 7, 2)])
+        processor = Processor([File(7, Code.N, 2)])
         processor.set(7, Code.N, 0, 0x2211)
         processor.set(7, Code.N, 1, 0x0033)
         processor.pccc(command("AB 03 07 89 00 00 F0 0F AA BB CC"))
@@ -225,12 +314,12 @@ class Processors(Refusing):
         self.assertEqual(processor.pccc(datalog_request(0)[6:])[8], 0x10)
 
     def test_building_is_refused(self):
-        for number, values in ((11, dict(files=[(Code.PD, 7, 1)])), (11, dict(files=[(0, 7, 1)])), (12, dict(files=[(Code.N, 256, 1)])),
-                               (12, dict(files=2 * [(Code.N, 7, 1)])), (13, dict(type_text=12 * "1")), (13, dict(type_text=b"\x80")),
-                               (14, dict(files=[(Code.N, 7, 32768)])), (15, dict(datalog=[bytes(256)])), (15, dict(datalog=[bytes(65536)])),
+        for number, values in ((11, dict(files=[(7, Code.PD, 1)])), (11, dict(files=[(7, 0, 1)])), (12, dict(files=[(256, Code.N, 1)])),
+                               (12, dict(files=2 * [(7, Code.N, 1)])), (13, dict(type_text=12 * "1")), (13, dict(type_text=b"\x80")),
+                               (14, dict(files=[(7, Code.N, 32768)])), (15, dict(datalog=[bytes(256)])), (15, dict(datalog=[bytes(65536)])),
                                (15, dict(datalog=65 * [b""]))):
             self.refused(number, Processor, **values)
-        full = Processor([(Code.N, number, 127) for number in range(256)], 11 * "1", 64 * [bytes(255)])
+        full = Processor([(number, Code.N, 127) for number in range(256)], 11 * "1", 64 * [bytes(255)])
         self.assertEqual((len(full.files), len(full.data), full.datalog_left), (256, 65024, 64))
 
     def test_commands_are_refused(self):
@@ -241,7 +330,7 @@ class Processors(Refusing):
         self.assertEqual(processor.pccc(b"\1\2\3\4\5"), bytes([1, 0x42, 0x10, 4, 5]))
 
     def test_elements(self):
-        processor = Processor([(Code.ST, 9, 2), (Code.T, 4, 1), (Code.F, 8, 1)])
+        processor = Processor([(9, Code.ST, 2), (4, Code.T, 1), (8, Code.F, 1)])
         processor.set(9, Code.ST, 1, "arabica")
         processor.set(4, Code.T, 0, Field("pre", 500))
         processor.set(8, Code.F, 0, 0.25)
@@ -263,11 +352,145 @@ class Processors(Refusing):
         self.refused(16, processor.set, 7, Code.N, 0, 1)
 
 
+class Threads(unittest.TestCase):
+    def entries(self, processor, each):
+        """What four threads get that ask for so many datalog entries each, where every call takes its time."""
+        call, got = _c.call, []
+
+        def slow(name, *values):
+            answer = call(name, *values)
+            time.sleep(0.001)
+            return answer
+
+        def ask():
+            for _ in range(each):
+                got.append(processor.pccc(datalog_request(0)[6:])[11:])
+
+        with mock.patch.object(_c, "call", slow):
+            threads = [threading.Thread(target=ask) for _ in range(4)]
+            for thread in threads:
+                thread.start()
+            for thread in threads:
+                thread.join()
+        return got
+
+    def test_each_entry_is_read_once(self):
+        entries = [bytes([n]) for n in range(64)]
+        processor = Processor(datalog=entries)
+        self.assertEqual(sorted(self.entries(processor, 16)), entries)
+        self.assertEqual(processor.datalog_left, 0)
+
+    def test_every_call_on_a_processor_takes_its_turn(self):
+        processor = Processor()
+        for call in (lambda: processor.pccc(W1[6:]), lambda: processor.read(7, Code.N, 0), lambda: processor.set(7, Code.N, 0, 1),
+                     lambda: processor.data, lambda: processor.files, lambda: processor.datalog_left, lambda: copy.copy(processor)):
+            thread = threading.Thread(target=call)
+            with processor._lock:
+                thread.start()
+                thread.join(0.01)
+                self.assertTrue(thread.is_alive())
+            thread.join()
+
+    def test_a_refused_call_gives_the_lock_back(self):
+        processor = Processor()
+        self.assertRaises(Refused, processor.pccc, b"")
+        self.assertRaises(Refused, processor.set, 7, Code.N, 999, 1)
+        self.assertFalse(processor._lock.locked())
+
+
+class Copies(unittest.TestCase):
+    def test_a_copy_is_independent(self):
+        for made in (copy.copy, copy.deepcopy):
+            first = Processor([(7, Code.N, 2)], "1747-L552", [b"A", b"B"])
+            first.set(7, Code.N, 0, 5)
+            second = made(first)
+            self.assertEqual((second.data, second.files, second.datalog_left), (first.data, first.files, 2))
+            second.set(7, Code.N, 0, 6)
+            self.assertEqual(second.pccc(datalog_request(0)[6:])[11:], b"A")
+            self.assertEqual((first.data, first.datalog_left), (b"\5\0\0\0", 2))
+            self.assertEqual((second.data, second.datalog_left), (b"\6\0\0\0", 1))
+            first._table[0].number = first._log[2] = first._slc.type_text[0] = 0
+            self.assertEqual(second.pccc(datalog_request(0)[6:])[11:], b"B")
+            self.assertIsNot(first._lock, second._lock)
+
+    def test_a_copy_without_a_datalog(self):
+        self.assertEqual(copy.copy(Processor()).data, bytes(902))
+
+    def test_a_processor_is_not_pickled(self):
+        with self.assertRaisesRegex(TypeError, "can't be pickled"):
+            pickle.dumps(Processor())
+
+    def test_values_and_refusals_are_pickled(self):
+        for value in (Text("abc"), Field("EN", 1), Float(1), FileCode.N, parse_tag("N7:0"), type_of_code(Code.N), sys0_info("")):
+            self.assertEqual(pickle.loads(pickle.dumps(value)), value)
+        self.assertEqual(pickle.loads(pickle.dumps(Refused(3))).number, 3)
+
+    def test_tags(self):
+        tags = Tags()
+        tags.feed(b"N7")
+        for twin in (copy.copy(tags), copy.deepcopy(tags), pickle.loads(pickle.dumps(tags))):
+            self.assertEqual(twin.feed(b":0/3{2}\n"), b"refused 3\n")
+        self.assertEqual(tags.feed(b":0/4{2}\nX\n"), b"refused 3\nrefused 2\n")
+
+
+class ThePackage(unittest.TestCase):
+    HERE = Path(__file__).resolve().parent
+
+    def run_python(self, text, **environment):
+        return subprocess.run([sys.executable, "-c", text], cwd=self.HERE, env={**os.environ, **environment}, capture_output=True, text=True)
+
+    def test_all(self):
+        names = {}
+        exec("from slc_link import *", names)
+        public = {n for n, v in vars(slc_link).items() if not n.startswith("_") and getattr(v, "__module__", "").startswith("slc_link")}
+        self.assertEqual(set(slc_link.__all__) - public, {n for n in slc_link.__all__ if n.isupper()} | {"Value", "Element"})
+        self.assertEqual(public - set(slc_link.__all__), set())
+        self.assertEqual(set(names) - {"__builtins__"}, set(slc_link.__all__))
+        self.assertEqual(len(set(slc_link.__all__)), len(slc_link.__all__))
+
+    def test_no_field_hides_a_method_of_tuples(self):
+        tuples = [v for v in vars(slc_link).values() if isinstance(v, type) and issubclass(v, tuple)]
+        self.assertGreater(len(tuples), 10)
+        for made in tuples:
+            self.assertFalse({"index", "count"} & set(made._fields), made)
+
+    def test_a_shared_object_that_is_missing(self):
+        with tempfile.TemporaryDirectory() as folder:
+            so = f"{folder}/libslc_link.so"
+            done = self.run_python("import slc_link; slc_link.parse_tag('N7:0')", SLC_LINK_SO=so)
+        said = done.stderr.splitlines()[-1]
+        self.assertEqual(said, "FileNotFoundError: [Errno 2] no shared object of the SLC link: build it with `./slc lib python`, "
+                               f"or set SLC_LINK_SO to it: '{so}'")
+
+    def test_a_shared_object_of_another_version(self):
+        with mock.patch.dict(_c.CALLS, {"slc_not_there": (None, {})}):
+            with self.assertRaisesRegex(OSError, "has no slc_not_there, .* build it anew with `./slc lib python`"):
+                _c.library.__wrapped__()
+
+    def test_a_relative_shared_object(self):
+        so = os.path.relpath(_c.shared_object(), self.HERE)
+        done = self.run_python("import slc_link; print(slc_link.parse_tag('N7:0').file_number)", SLC_LINK_SO=so)
+        self.assertEqual((done.stdout, done.stderr), ("7\n", ""))
+
+    def test_versions_agree(self):
+        cargo = (self.HERE.parent / "rust/Cargo.toml").read_text()
+        self.assertEqual(re.search(r'^version = "(.*)"$', cargo, re.M)[1], slc_link.__version__)
+
+    def test_types_are_shipped(self):
+        self.assertTrue((self.HERE / "slc_link/py.typed").is_file())
+        self.assertIn('slc_link = ["py.typed"]', (self.HERE / "pyproject.toml").read_text())
+
+    @unittest.skipUnless(shutil.which("mypy"), "no mypy")
+    def test_types_are_strict(self):
+        done = subprocess.run(["mypy", "--strict", "--cache-dir", os.devnull, "slc_link", "test_types.py"], cwd=self.HERE, capture_output=True, text=True)
+        self.assertEqual(done.returncode, 0, done.stdout + done.stderr)
+
+
 class TheCallsOfC(unittest.TestCase):
     def test_kinds_that_there_are_not(self):
-        element = slc_link._output(2)
-        self.assertEqual(slc_link._call("slc_encode_element", Code.N, slc_link.slc_value(9), b"", element), 20)
-        request = slc_link._call("slc_write_request", b"N7:0", 9, b"12", slc_link._requestor(None), 0, slc_link._output(WRITE_ROOM))
+        element = _c.output(2)
+        self.assertEqual(_c.call("slc_encode_element", Code.N, _c.slc_value(9), b"", element), 20)
+        request = _c.call("slc_write_request", b"N7:0", 9, b"12", slc_link._requestor(None), 0, _c.output(WRITE_ROOM))
         self.assertEqual(request.address.refused, 4)
 
     def test_a_refused_call_changes_and_tells_nothing_else(self):
@@ -278,22 +501,25 @@ class TheCallsOfC(unittest.TestCase):
             return (item * length).from_buffer(out)
 
         memory, text, files = lent(c_uint8, 256), lent(c_uint8, 81), (c_uint32 * 3 * 0)()
-        table, rows = lent(slc_link.slc_file_record, 9), lent(c_uint32 * 4, 1)
-        q, info = slc_link._requestor(None), slc_link._call("slc_sys0_info", b"")
+        table, rows = lent(_c.slc_file_record, 9), lent(c_uint32 * 4, 1)
+        q, info = slc_link._requestor(None), _c.call("slc_sys0_info", b"")
         for number, name, *values in (
                 (6, "slc_string_swap", bytes(257), memory),
+                (6, "slc_question", 1, text),
+                (6, "slc_reply_status", b"", text),
+                (25, "slc_reply_directory_size", W1[6:18], info),
                 (24, "slc_decode_element", Code.ST, bytes(84), text),
                 (2, "slc_parse_tag", b""),
                 (5, "slc_read_request", b"N7:0{128}", q, 0, memory),
-                (4, "slc_write_request", b"N7:0", slc_link.SLC_TRUE, b"", q, 0, memory),
+                (4, "slc_write_request", b"N7:0", _c.SLC_TRUE, b"", q, 0, memory),
                 (26, "slc_file_directory_read_request", 1, 65536, 1, q, 0, memory),
                 (25, "slc_parse_file_directory_size", b"", info),
                 (10, "slc_parse_file_directory", 0, 3, 2 * b"\x89\2\0", rows),
-                (14, "slc_new", table, slc_link._output(901), b"", 0, files, b""),
-                (15, "slc_new", table, slc_link._output(902), b"", 1, files, b""),
-                (16, "slc_pccc", slc_link.slc_processor(), table, memory, b"", W1[6:], slc_link._output(514)),
-                (16, "slc_read", slc_link.slc_processor(), table, b"", b"", slc_link.slc_spot(), text)):
-            answer = slc_link._call(name, *values)
+                (14, "slc_new", table, _c.output(901), b"", 0, files, b""),
+                (15, "slc_new", table, _c.output(902), b"", 1, files, b""),
+                (16, "slc_pccc", _c.slc_processor(), table, memory, b"", W1[6:], _c.output(514)),
+                (16, "slc_read", _c.slc_processor(), table, b"", b"", _c.slc_spot(), text)):
+            answer = _c.call(name, *values)
             self.assertEqual([n for n in numbers(answer) if n], [number], name)
             self.assertEqual(out, before, name)
 

@@ -72,11 +72,21 @@ pub fn file_directory_read_request(
     unsafe { sys::slc_file_directory_read_request(file_type, offset, size, q.c(), sequence, out.as_mut_ptr(), out.len()) }.of(out)
 }
 
-/// The directory's size in a reply, less what the processor adds; it may be negative. Refused: 25.
+fn size(found: sys::slc_directory_size) -> Result<i32, Refused> {
+    Refused::test(found.refused)?;
+    Ok(found.bytes)
+}
+
+/// The directory's size in a reply that begins with the requester's id, as [`Processor::pccc`](crate::Processor::pccc) gives it, less what the
+/// processor adds; it may be negative. Refused: 25, where the reply has less than two bytes of data.
+pub fn reply_directory_size(reply: &[u8], info: Sys0Info) -> Result<i32, Refused> {
+    size(unsafe { sys::slc_reply_directory_size(reply.as_ptr(), reply.len(), info.c()) })
+}
+
+/// As [`reply_directory_size`], of a connected reply with its encapsulation, whose id has 7 bytes: its PCCC begins at byte 50 of `raw`. Refused:
+/// 25, where that has less than 63 bytes.
 pub fn parse_file_directory_size(raw: &[u8], info: Sys0Info) -> Result<i32, Refused> {
-    let size = unsafe { sys::slc_parse_file_directory_size(raw.as_ptr(), raw.len(), info.c()) };
-    Refused::test(size.refused)?;
-    Ok(size.bytes)
+    size(unsafe { sys::slc_parse_file_directory_size(raw.as_ptr(), raw.len(), info.c()) })
 }
 
 /// The files of a directory's rows, which stand in the output. Refused: 7 to 10.

@@ -1,11 +1,12 @@
 use crate::{sys, FileType, Refused};
 
-/// A value to set.
+/// A value to set. An [`f32`] is one too: `1.5.into()`.
 #[derive(Clone, Copy, Debug, PartialEq, Eq, Hash)]
+#[non_exhaustive]
 pub enum Value<'a> {
     /// A whole number, for O, I, S, B, N and L.
     Whole(i64),
-    /// The bits of a float (see [`f32::to_bits`]), for F.
+    /// The bits of a float, for F.
     Float(u32),
     /// Latin-1 text, for A and ST.
     Text(&'a [u8]),
@@ -17,10 +18,11 @@ pub enum Value<'a> {
 
 /// A value that was read.
 #[derive(Clone, Copy, Debug, PartialEq, Eq, Hash)]
+#[non_exhaustive]
 pub enum Element<'t> {
     /// A whole number, of O, I, S, B, N and L.
     Whole(i32),
-    /// The bits of a float (see [`f32::from_bits`]), of F.
+    /// The bits of a float (see [`Element::float`]), of F.
     Float(u32),
     /// Latin-1 text, of A and ST.
     Text(&'t [u8]),
@@ -49,7 +51,22 @@ impl<'a> Value<'a> {
     }
 }
 
+/// The float, with all of its bits.
+impl From<f32> for Value<'_> {
+    fn from(number: f32) -> Self {
+        Value::Float(number.to_bits())
+    }
+}
+
 impl<'t> Element<'t> {
+    /// The float, with all of its bits; `None` where it is another kind of value.
+    pub fn float(self) -> Option<f32> {
+        match self {
+            Element::Float(bits) => Some(f32::from_bits(bits)),
+            _ => None,
+        }
+    }
+
     pub(crate) fn of(read: sys::slc_element, text: &'t [u8]) -> Result<Self, Refused> {
         Refused::test(read.refused)?;
         Ok(match read.kind {

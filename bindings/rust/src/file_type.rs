@@ -1,4 +1,5 @@
 use crate::sys;
+use std::error::Error;
 use std::fmt;
 
 /// The type of a data file, by its PCCC type code.
@@ -36,6 +37,10 @@ pub enum FileType {
     /// Programmable limit switches.
     PLS = 0x94,
 }
+
+/// A code that no type has.
+#[derive(Clone, Copy, Debug, PartialEq, Eq, Hash)]
+pub struct UnknownCode(pub u8);
 
 /// A name of at most three bytes, all of them ASCII; empty where there is none.
 #[derive(Clone, Copy, PartialEq, Eq, Hash)]
@@ -127,6 +132,22 @@ impl FileType {
         }
     }
 }
+
+impl TryFrom<u8> for FileType {
+    type Error = UnknownCode;
+
+    fn try_from(code: u8) -> Result<FileType, UnknownCode> {
+        FileType::from_code(code).ok_or(UnknownCode(code))
+    }
+}
+
+impl fmt::Display for UnknownCode {
+    fn fmt(&self, f: &mut fmt::Formatter<'_>) -> fmt::Result {
+        write!(f, "no file type has the code {:02X}", self.0)
+    }
+}
+
+impl Error for UnknownCode {}
 
 impl Name {
     fn of(name: sys::slc_name) -> Name {

@@ -2,7 +2,7 @@
 //! MicroLogix processors over PCCC.
 //!
 //! Every call is a proved function of the library `libslc_link.a`; this package lends it slices and turns its answers into enums. A call that
-//! the library refuses is an [`Err`] with the number of the question that was answered with no ([`Refused`]); it changes no lent byte. Output
+//! the library refuses is an [`Err`] with the question that was answered with no ([`Refused`]); it changes no lent byte. Output
 //! goes to slices that the caller lends, and what was written is handed back as a part of them. Nothing is allocated but by
 //! [`Processor::new`] and by cloning a [`Processor`].
 //!
@@ -24,7 +24,7 @@
 //!
 //! // a bit can't be read with a count above 1
 //! let refused = read_request(b"N7:0/3{2}", Requestor::default(), 0, &mut out).unwrap_err();
-//! assert_eq!(refused, Refused(3));
+//! assert_eq!(refused, Refused::BitCount);
 //! # Ok::<(), Refused>(())
 //! ```
 #![deny(missing_docs)]
@@ -41,14 +41,14 @@ mod tags;
 mod text;
 
 pub use directory::{
-    file_directory_read_request, file_directory_size_request, parse_file_directory, parse_file_directory_size, sys0_info, ListedFile,
-    Sys0Info,
+    file_directory_read_request, file_directory_size_request, parse_file_directory, parse_file_directory_size, reply_directory_size,
+    sys0_info, ListedFile, Sys0Info,
 };
 pub use element::{decode_element, encode_element, Element, Value};
-pub use file_type::{Field, FileType, Name};
+pub use file_type::{Field, FileType, Name, UnknownCode};
 pub use processor::{File, FileRecord, Processor, Spot};
-pub use refused::Refused;
-pub use reply::{error_text, parse_datalog, request_status};
+pub use refused::{Question, Refused, UnknownNumber};
+pub use reply::{error_text, parse_datalog, reply_datalog, reply_status, request_status};
 pub use request::{
     datalog_request, parse_tag, processor_type_request, read_request, write_request, Address, Request, Requestor, WriteValue,
 };
@@ -59,7 +59,7 @@ pub use text::{encode_ascii, encode_string, string_swap, swap_pairs};
 pub const REQUEST_ROOM: usize = 27;
 /// Bytes of output that a write request needs (question 6).
 pub const WRITE_ROOM: usize = 284;
-/// Bytes of output that a status text needs (question 6).
+/// Bytes of output that a status text or a question needs (question 6).
 pub const STATUS_ROOM: usize = 96;
 /// Bytes that the memory of a reply needs (question 17).
 pub const REPLY_ROOM: usize = 514;
@@ -67,6 +67,10 @@ pub const REPLY_ROOM: usize = 514;
 pub const TEXT_ROOM: usize = 82;
 /// Bytes of output that [`Tags`] needs for each byte of input.
 pub const TAG_ROOM: usize = 64;
+/// The place in a message where its PCCC command begins, behind CIP service and path.
+pub const COMMAND_AT: usize = 6;
+/// The place in a reply where its data begins, where the requester's id has the usual 7 bytes.
+pub const DATA_AT: usize = 11;
 
 #[cfg(test)]
 mod tests;

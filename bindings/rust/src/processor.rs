@@ -6,10 +6,10 @@ const MOST_DATA: usize = 65_535;
 /// A file that a processor is to have.
 #[derive(Clone, Copy, Debug, PartialEq, Eq, Hash)]
 pub struct File {
-    /// The type, one of the simulated processor's twelve.
-    pub file_type: FileType,
     /// The number, at most 255.
     pub number: u32,
+    /// The type, one of the simulated processor's twelve.
+    pub file_type: FileType,
     /// How many elements it has.
     pub elements: u32,
 }
@@ -17,10 +17,10 @@ pub struct File {
 /// A file that a processor has.
 #[derive(Clone, Copy, Debug, PartialEq, Eq, Hash)]
 pub struct FileRecord {
-    /// The type.
-    pub file_type: FileType,
     /// The number.
     pub number: u8,
+    /// The type.
+    pub file_type: FileType,
     /// Where its bytes begin in the data.
     pub start: usize,
     /// How many bytes it has.
@@ -156,8 +156,8 @@ impl Processor {
     /// Its files, by their numbers.
     pub fn files(&self) -> impl Iterator<Item = FileRecord> + '_ {
         self.table.iter().map(|f| FileRecord {
-            file_type: FileType::from_code(f.code).expect("a file has one of the twelve types"),
             number: f.number as u8,
+            file_type: FileType::from_code(f.code).expect("a file has one of the twelve types"),
             start: usize::from(f.start),
             length: usize::from(f.length),
         })

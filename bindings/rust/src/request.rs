@@ -41,6 +41,7 @@ pub struct Requestor {
 
 /// What a request writes.
 #[derive(Clone, Copy, Debug, PartialEq, Eq, Hash)]
+#[non_exhaustive]
 pub enum WriteValue<'a> {
     /// A mask word and the data, as they are.
     Raw(&'a [u8]),

@@ -218,8 +218,11 @@ extern "C" {
     pub fn slc_processor_type_request(q: slc_requestor, sequence: u16, out: *mut u8, out_len: usize) -> slc_written;
     pub fn slc_datalog_request(queue: u8, out: *mut u8, out_len: usize) -> slc_written;
     pub fn slc_request_status(raw: *const u8, raw_len: usize, out: *mut u8, out_len: usize) -> slc_written;
+    pub fn slc_reply_status(reply: *const u8, reply_len: usize, out: *mut u8, out_len: usize) -> slc_written;
     pub fn slc_error_text(status: u8, out: *mut u8, out_len: usize) -> slc_written;
     pub fn slc_parse_datalog(raw: *const u8, raw_len: usize) -> slc_part;
+    pub fn slc_reply_datalog(reply: *const u8, reply_len: usize) -> slc_part;
+    pub fn slc_question(number: u8, out: *mut u8, out_len: usize) -> slc_written;
     pub fn slc_sys0_info(plc_type: *const u8, plc_type_len: usize) -> slc_sys0;
     pub fn slc_file_directory_size_request(info: slc_sys0, q: slc_requestor, sequence: u16, out: *mut u8, out_len: usize) -> slc_written;
     pub fn slc_file_directory_read_request(
@@ -232,6 +235,7 @@ extern "C" {
         out_len: usize,
     ) -> slc_written;
     pub fn slc_parse_file_directory_size(raw: *const u8, raw_len: usize, info: slc_sys0) -> slc_directory_size;
+    pub fn slc_reply_directory_size(reply: *const u8, reply_len: usize, info: slc_sys0) -> slc_directory_size;
     pub fn slc_parse_file_directory(
         file_position: usize,
         row_size: usize,

@@ -24,8 +24,8 @@ fn ask(processor: &mut Processor, command: &[u8]) -> Result<Vec<u8>, Refused> {
     Ok(processor.pccc(command, &mut reply)?.to_vec())
 }
 
-fn file(file_type: FileType, number: u32, elements: u32) -> File {
-    File { file_type, number, elements }
+fn file(number: u32, file_type: FileType, elements: u32) -> File {
+    File { number, file_type, elements }
 }
 
 fn at(number: u16, file_type: FileType, element: usize) -> Spot {
@@ -40,11 +40,19 @@ const W1: [u8; 23] = [0x4B, 2, 0x20, 0x67, 0x24, 1, 7, 9, 0x10, 9, 0x10, 0x19, 0
 const BAD: [u8; 12] = [7, 9, 0x10, 9, 0x10, 0x19, 0x71, 0x4F, 0xF0, 0, 0, 6];
 
 #[test]
-fn refusals_have_their_questions() {
-    assert_eq!(Refused(16).question(), Some("Is the processor sound?"));
-    assert_eq!(Refused(26).to_string(), "refused 26: Is the offset at most 65,535? No.");
-    assert_eq!(Refused(0).question(), None);
-    assert_eq!(Refused(27).to_string(), "refused 27");
+fn refusals_have_numbers_and_questions() {
+    let numbers: Vec<u8> = Refused::ALL.iter().map(|r| r.number()).collect();
+    assert_eq!(numbers, Vec::from_iter(1..=26));
+    assert!(Refused::ALL.iter().all(|&r| Refused::try_from(r.number()) == Ok(r)));
+    assert_eq!([0, 27, 255].map(Refused::try_from), [0, 27, 255].map(|n| Err(UnknownNumber(n))));
+    assert_eq!(UnknownNumber(27).to_string(), "no refusal has the number 27");
+    assert_eq!(Refused::Unsound.question().as_str(), "Is the processor sound?");
+    assert!(Refused::ALL.iter().all(|r| r.question().as_str().ends_with('?')));
+    assert_eq!(
+        format!("{:?} {:>6}", Refused::Number.question(), Refused::RowSize.question()),
+        "\"Is the number in range?\" Is the row size not 0?"
+    );
+    assert_eq!(Refused::Offset.to_string(), "refused 26: Is the offset at most 65,535? No.");
 }
 
 #[test]
@@ -54,6 +62,11 @@ fn every_code_has_the_type_that_the_library_knows() {
     for t in FileType::ALL {
         assert_eq!(FileType::from_name(t.name().as_bytes()), Some(t));
     }
+    for code in 0..=255 {
+        assert_eq!(FileType::try_from(code).ok(), FileType::from_code(code));
+    }
+    assert_eq!(FileType::try_from(0x81), Err(UnknownCode(0x81)));
+    assert_eq!(UnknownCode(0x81).to_string(), "no file type has the code 81");
     assert_eq!(FileType::from_name(b"n"), None);
     assert_eq!(FileType::from_name(b""), None);
 }
@@ -83,17 +96,17 @@ fn text() {
     let mut out = [0xEE; 84];
     assert_eq!(string_swap(b"abc", &mut out), Ok(&b"ba\0c"[..]));
     assert_eq!(out[4], 0xEE);
-    assert_eq!(string_swap(b"abc", &mut out[..3]), Err(Refused(6)));
+    assert_eq!(string_swap(b"abc", &mut out[..3]), Err(Refused::OutputRoom));
     assert_eq!(string_swap(b"", &mut []), Ok(&b""[..]));
     let mut bytes = *b"abc";
     swap_pairs(&mut bytes);
     assert_eq!(&bytes, b"bac");
     swap_pairs(&mut []);
     assert_eq!(encode_ascii(b"x", &mut out), Ok(&b" x"[..]));
-    assert_eq!(encode_ascii(b"x", &mut out[..1]), Err(Refused(6)));
+    assert_eq!(encode_ascii(b"x", &mut out[..1]), Err(Refused::OutputRoom));
     let st = encode_string(b"abc", &mut out).unwrap();
     assert_eq!((st.len(), &st[..7]), (84, &b"\x03\0ba\0c\0"[..]));
-    assert_eq!(encode_string(b"abc", &mut [0; 83]), Err(Refused(6)));
+    assert_eq!(encode_string(b"abc", &mut [0; 83]), Err(Refused::OutputRoom));
 }
 
 #[test]
@@ -103,10 +116,10 @@ fn elements() {
     assert_eq!(encode_element(FileType::N, Value::Whole(-2), &mut word), Ok(()));
     assert_eq!(word, [0xFE, 0xFF, 0xEE]);
     assert_eq!(decode_element(FileType::N, &word, &mut none), Ok(Element::Whole(-2)));
-    assert_eq!(encode_element(FileType::N, Value::Whole(65536), &mut word), Err(Refused(22)));
-    assert_eq!(encode_element(FileType::N, Value::Text(b"a"), &mut word), Err(Refused(20)));
-    assert_eq!(encode_element(FileType::L, Value::Whole(1), &mut word), Err(Refused(19)));
-    assert_eq!(encode_element(FileType::MG, Value::Whole(1), &mut [0; 50]), Err(Refused(20)));
+    assert_eq!(encode_element(FileType::N, Value::Whole(65536), &mut word), Err(Refused::Number));
+    assert_eq!(encode_element(FileType::N, Value::Text(b"a"), &mut word), Err(Refused::Kind));
+    assert_eq!(encode_element(FileType::L, Value::Whole(1), &mut word), Err(Refused::NoElement));
+    assert_eq!(encode_element(FileType::MG, Value::Whole(1), &mut [0; 50]), Err(Refused::Kind));
     assert_eq!(word, [0xFE, 0xFF, 0xEE]);
 
     let mut long = [0; 4];
@@ -121,15 +134,40 @@ fn elements() {
     assert_eq!(encode_element(FileType::T, Value::Field(b"en", 1), &mut timer), Ok(()));
     assert_eq!(timer, [1, 0x80, 0xF4, 1, 0xFD, 0xFF]);
     assert_eq!(decode_element(FileType::T, &timer, &mut none), Ok(Element::Fields { word1: 500, word2: -3, status: 0x8000 }));
-    assert_eq!(encode_element(FileType::T, Value::Field(b"XX", 1), &mut timer), Err(Refused(21)));
-    assert_eq!(encode_element(FileType::T, Value::Words(0, 99_999, 0), &mut timer), Err(Refused(22)));
+    assert_eq!(encode_element(FileType::T, Value::Field(b"XX", 1), &mut timer), Err(Refused::Field));
+    assert_eq!(encode_element(FileType::T, Value::Words(0, 99_999, 0), &mut timer), Err(Refused::Number));
 
     let mut line = [0; 84];
     let mut text = [0; TEXT_ROOM];
     assert_eq!(encode_element(FileType::ST, Value::Text(b"robusta"), &mut line), Ok(()));
     assert_eq!(decode_element(FileType::ST, &line, &mut text), Ok(Element::Text(b"robusta")));
-    assert_eq!(decode_element(FileType::ST, &line, &mut text[..81]), Err(Refused(24)));
-    assert_eq!(encode_element(FileType::ST, Value::Text(&[b'x'; 83]), &mut line), Err(Refused(23)));
+    assert_eq!(decode_element(FileType::ST, &line, &mut text[..81]), Err(Refused::TextRoom));
+    assert_eq!(encode_element(FileType::ST, Value::Text(&[b'x'; 83]), &mut line), Err(Refused::TextLength));
+}
+
+#[test]
+fn floats_keep_their_bits() {
+    let mut processor = default_processor();
+    let f8 = at(8, FileType::F, 0);
+    for bits in [0x3DCC_CCCD, 0x8000_0000, 0x7F80_0001, 0xFFC1_2345, u32::MAX] {
+        processor.set(f8, f32::from_bits(bits).into()).unwrap();
+        let read = processor.read(f8, &mut []).unwrap();
+        assert_eq!((read, read.float().map(f32::to_bits)), (Element::Float(bits), Some(bits)));
+    }
+    processor.set(f8, 0.1.into()).unwrap();
+    assert_eq!(processor.read(f8, &mut []).unwrap().float(), Some(0.1));
+    assert_eq!(Element::Whole(1).float(), None);
+}
+
+#[test]
+fn a_clone_is_independent_and_threads_may_have_it() {
+    fn sent<T: Send + Sync>(value: T) -> T {
+        value
+    }
+    let mut first = sent(default_processor());
+    let second = first.clone();
+    first.set(at(7, FileType::N, 0), Value::Whole(1)).unwrap();
+    assert_eq!((first.data().iter().sum::<u8>(), second.data().iter().sum::<u8>()), (1, 0));
 }
 
 #[test]
@@ -147,9 +185,10 @@ fn w1_to_w6() {
     assert_eq!(read("B3/4095").unwrap()[19..], [3, 0x85, 0xFF, 0xFF, 0, 0]);
     assert_eq!((read("N7:0{0}").unwrap()[18], read("N7:0{127}").unwrap()[18]), (0, 254));
     assert_eq!(parse_tag(b"N7:0{99999999999999999999}").unwrap().element_count, u64::MAX);
-    let refused = ["N7:0{128}", "ST9:0{3}", "N7:0/3{2}", "", "X7:0", &"N".repeat(256), "N7:\u{e9}"].map(|tag| read(tag).unwrap_err().0);
+    let refused =
+        ["N7:0{128}", "ST9:0{3}", "N7:0/3{2}", "", "X7:0", &"N".repeat(256), "N7:\u{e9}"].map(|tag| read(tag).unwrap_err().number());
     assert_eq!(refused, [5, 2, 3, 2, 2, 1, 1]);
-    assert_eq!(read_request(b"N7:0", requestor(), 0, &mut out[..26]), Err(Refused(6)));
+    assert_eq!(read_request(b"N7:0", requestor(), 0, &mut out[..26]), Err(Refused::OutputRoom));
 }
 
 #[test]
@@ -159,11 +198,11 @@ fn w7_and_w8() {
     let w8 = write("ST9:0", WriteValue::Text(b"abc")).unwrap();
     assert_eq!(w8[23..31], [0xFF, 0xFF, 3, 0, 0x62, 0x61, 0, 0x63]);
     assert_eq!(write("N7:0", WriteValue::Raw(&[0xFF, 0xFF, 1, 2])).unwrap()[17..], [0xAB, 2, 7, 0x89, 0, 0, 0xFF, 0xFF, 1, 2]);
-    assert_eq!(write("N7:0", WriteValue::Bool(true)), Err(Refused(4)));
-    assert_eq!(write("T4:0.PRE", WriteValue::Bool(true)), Err(Refused(4)));
-    assert_eq!(write("N7:0", WriteValue::Raw(&[1])), Err(Refused(5)));
-    assert_eq!(write("N7:0/3{2}", WriteValue::Raw(&[1, 2])), Err(Refused(3)));
-    assert_eq!(write_request(b"N7:0/3", WriteValue::Bool(true), requestor(), 0, &mut [0; 283]), Err(Refused(6)));
+    assert_eq!(write("N7:0", WriteValue::Bool(true)), Err(Refused::Value));
+    assert_eq!(write("T4:0.PRE", WriteValue::Bool(true)), Err(Refused::Value));
+    assert_eq!(write("N7:0", WriteValue::Raw(&[1])), Err(Refused::Size));
+    assert_eq!(write("N7:0/3{2}", WriteValue::Raw(&[1, 2])), Err(Refused::BitCount));
+    assert_eq!(write_request(b"N7:0/3", WriteValue::Bool(true), requestor(), 0, &mut [0; 283]), Err(Refused::OutputRoom));
 }
 
 #[test]
@@ -175,14 +214,14 @@ fn other_requests() {
     let message = processor_type_request(q, 0x0102, &mut out).unwrap();
     assert_eq!((&message[..13], &message[13..]), (&head[..], &[6, 0, 2, 1, 3][..]));
     assert_eq!(datalog_request(3, &mut out).unwrap().len(), 23);
-    assert_eq!(datalog_request(3, &mut out[..26]), Err(Refused(6)));
+    assert_eq!(datalog_request(3, &mut out[..26]), Err(Refused::OutputRoom));
 
     let info = sys0_info(b"1766-L32BXB");
     assert_eq!((info.file_position, info.row_size, info.file_type, info.size_element), (233, 10, 3, 0x2B));
     assert_eq!((info.size_len, info.size_const), (8, 19968));
     assert_eq!(file_directory_size_request(info, q, 0, &mut out).unwrap()[17..], [0xA1, 8, 0, 3, 0x2B]);
-    assert_eq!(file_directory_read_request(3, 65_536, 80, q, 0, &mut out[..1]), Err(Refused(26)));
-    assert_eq!(file_directory_read_request(3, 65_535, 80, q, 0, &mut out[..1]), Err(Refused(6)));
+    assert_eq!(file_directory_read_request(3, 65_536, 80, q, 0, &mut out[..1]), Err(Refused::Offset));
+    assert_eq!(file_directory_read_request(3, 65_535, 80, q, 0, &mut out[..1]), Err(Refused::OutputRoom));
     assert!(file_directory_read_request(3, 65_535, 80, q, 0, &mut out).is_ok());
 }
 
@@ -194,13 +233,60 @@ fn replies() {
     raw[58] = 0xF0;
     raw[61] = 6;
     assert_eq!(request_status(&raw, &mut out), Ok(Some("Error code in EXT STS Byte (EXT STS 0x06)")));
-    assert_eq!(request_status(&raw, &mut out[..95]), Err(Refused(6)));
+    assert_eq!(request_status(&raw, &mut out[..95]), Err(Refused::OutputRoom));
     assert_eq!(request_status(&[], &mut out), Ok(Some("Unknown Status")));
     assert_eq!(error_text(0x70, &mut out), Ok(Some("Processor is in Program mode")));
     assert_eq!(error_text(0x11, &mut out), Ok(None));
     assert_eq!(parse_datalog(&raw), [6, 0, 0]);
     assert_eq!(parse_datalog(&raw[..61]), []);
     assert_eq!(parse_datalog(&[]), []);
+}
+
+/// The replies of a processor to the command behind an id of so many bytes, which counts itself.
+fn replies_by_id(function: &[u8], status: u8, datalog: &[&[u8]]) -> Vec<Vec<u8>> {
+    let of = |length: u8| {
+        let mut processor = Processor::new(&[], b"1747-L552", datalog).unwrap();
+        let id = Vec::from_iter((0..length).map(|i| length - i));
+        let reply = ask(&mut processor, &[&id[..], &[0x0F, 0, 0, 0], function].concat()).unwrap();
+        assert_eq!(reply[usize::from(length) + 1], status);
+        reply
+    };
+    [7, 1, 2, 8, 255].map(of).to_vec()
+}
+
+#[test]
+fn replies_from_the_id_on() {
+    let mut out = [0; STATUS_ROOM];
+    let info = sys0_info(b"1747-L552");
+    let bad = "Error code in EXT STS Byte (EXT STS 0x06)";
+    for reply in replies_by_id(&[0xA2, 2, 7, 0x89, 100, 0], 0xF0, &[]) {
+        assert_eq!(reply_status(&reply, &mut out), Ok(Some(bad)));
+        assert_eq!(reply_status(&reply, &mut out[..95]), Err(Refused::OutputRoom));
+        assert_eq!(reply_directory_size(&reply, info), Err(Refused::ReplyLength));
+    }
+    for reply in replies_by_id(&[0xA2, 0x6D, 0, 0xA5, 0, 0], 0, &[b"ABC"]) {
+        assert_eq!((reply_status(&reply, &mut []), reply_datalog(&reply)), (Ok(None), &b"ABC"[..]));
+    }
+    for reply in replies_by_id(&[0xA1, 2, 0, info.file_type, info.size_element], 0, &[]) {
+        assert_eq!(reply_directory_size(&reply, info), Ok(0xA9));
+    }
+    assert_eq!(reply_status(&[], &mut out), Ok(Some("Unknown Status")));
+    assert_eq!((reply_datalog(&[]), reply_datalog(&[9, 1])), (&[][..], &[][..]));
+}
+
+#[test]
+fn raw_replies_are_those_behind_50_bytes() {
+    let info = sys0_info(b"1766");
+    for status in 0..=255 {
+        let whole = [7, 9, 0x10, 9, 0x10, 0x19, 0x71, 0x4F, status, 1, 2, status ^ 0xFF, 4, 5];
+        for reply in (8..=whole.len()).map(|n| &whole[..n]) {
+            let raw = [&[0xEE; 50], reply].concat();
+            let (mut one, mut other) = ([0; STATUS_ROOM], [0; STATUS_ROOM]);
+            assert_eq!(reply_status(reply, &mut one), request_status(&raw, &mut other));
+            assert_eq!(reply_datalog(reply), parse_datalog(&raw));
+            assert_eq!(reply_directory_size(reply, info), parse_file_directory_size(&raw, info));
+        }
+    }
 }
 
 #[test]
@@ -210,14 +296,14 @@ fn directories() {
     raw[61] = 0xA9;
     assert_eq!(parse_file_directory_size(&raw, info), Ok(0xA9));
     assert_eq!(parse_file_directory_size(&raw, sys0_info(b"1766")), Ok(0xA9 - 19968));
-    assert_eq!(parse_file_directory_size(&raw[..62], info), Err(Refused(25)));
+    assert_eq!(parse_file_directory_size(&raw[..62], info), Err(Refused::ReplyLength));
 
     let rows = [0xEE, 0x82, 4, 0, 0x81, 0, 0, 0x89, 6, 0];
     let mut out = [ListedFile::default(); 2];
     let files = parse_file_directory(1, 3, &rows, &mut out).unwrap();
     assert_eq!(files[1], ListedFile { code: 0x89, number: 2, elements: 3, length: 6 });
     assert_eq!((files.len(), files[0].file_type(), files[0].elements), (2, Some(FileType::O), 2));
-    let mut refused = |row_size, bytes: &[u8], room| parse_file_directory(1, row_size, bytes, &mut out[..room]).unwrap_err().0;
+    let mut refused = |row_size, bytes: &[u8], room| parse_file_directory(1, row_size, bytes, &mut out[..room]).unwrap_err().number();
     assert_eq!([refused(3, &[0; 65_536], 2), refused(0, &rows, 2), refused(3, &rows[..9], 2), refused(3, &rows, 1)], [7, 8, 9, 10]);
 }
 
@@ -240,7 +326,7 @@ fn the_default_processor() {
 
 #[test]
 fn w9_masked_write() {
-    let mut processor = Processor::new(&[file(FileType::N, 7, 2)], b"", &[]).unwrap();
+    let mut processor = Processor::new(&[file(7, FileType::N, 2)], b"", &[]).unwrap();
     for (element, word) in [0x2211, 0x0033].into_iter().enumerate() {
         processor.set(at(7, FileType::N, element), Value::Whole(word)).unwrap();
     }
@@ -273,9 +359,9 @@ fn w11_datalog() {
 
 #[test]
 fn building_is_refused() {
-    let refused = |files: &[File], text: &[u8], log: &[&[u8]]| Processor::new(files, text, log).unwrap_err().0;
-    let n = |number, elements| file(FileType::N, number, elements);
-    assert_eq!(refused(&[file(FileType::PD, 7, 1)], b"", &[]), 11);
+    let refused = |files: &[File], text: &[u8], log: &[&[u8]]| Processor::new(files, text, log).unwrap_err().number();
+    let n = |number, elements| file(number, FileType::N, elements);
+    assert_eq!(refused(&[file(7, FileType::PD, 1)], b"", &[]), 11);
     assert_eq!(refused(&[n(256, 1)], b"", &[]), 12);
     assert_eq!(refused(&[n(7, 1), n(7, 1)], b"", &[]), 12);
     assert_eq!(refused(&[], b"123456789012", &[]), 13);
@@ -293,8 +379,8 @@ fn building_is_refused() {
 #[test]
 fn commands_are_refused() {
     let mut processor = default_processor();
-    assert_eq!(processor.pccc(&W1[6..], &mut [0; 513]), Err(Refused(17)));
-    let refused = [&[][..], &[0, 1, 2, 3, 4], &[1, 2, 3, 4]].map(|c| ask(&mut processor, c).unwrap_err().0);
+    assert_eq!(processor.pccc(&W1[6..], &mut [0; 513]), Err(Refused::ReplyRoom));
+    let refused = [&[][..], &[0, 1, 2, 3, 4], &[1, 2, 3, 4]].map(|c| ask(&mut processor, c).unwrap_err().number());
     assert_eq!(refused, [18, 18, 18]);
     assert_eq!(ask(&mut processor, &[1, 2, 3, 4, 5]).unwrap(), [1, 0x42, 0x10, 4, 5]);
 }
@@ -302,16 +388,16 @@ fn commands_are_refused() {
 #[test]
 fn elements_of_a_processor() {
     let st = at(9, FileType::ST, 1);
-    let mut processor = Processor::new(&[file(FileType::ST, 9, 2), file(FileType::T, 4, 1)], b"", &[]).unwrap();
+    let mut processor = Processor::new(&[file(9, FileType::ST, 2), file(4, FileType::T, 1)], b"", &[]).unwrap();
     let mut text = [0; TEXT_ROOM];
     assert_eq!(processor.set(st, Value::Text(b"arabica")), Ok(()));
     assert_eq!(processor.read(st, &mut text), Ok(Element::Text(b"arabica")));
-    assert_eq!(processor.read(st, &mut text[..81]), Err(Refused(24)));
-    assert_eq!(processor.read(at(9, FileType::ST, 2), &mut text), Err(Refused(19)));
-    assert_eq!(processor.read(at(9, FileType::N, 0), &mut text), Err(Refused(19)));
+    assert_eq!(processor.read(st, &mut text[..81]), Err(Refused::TextRoom));
+    assert_eq!(processor.read(at(9, FileType::ST, 2), &mut text), Err(Refused::NoElement));
+    assert_eq!(processor.read(at(9, FileType::N, 0), &mut text), Err(Refused::NoElement));
     assert_eq!(processor.set(at(4, FileType::T, 0), Value::Field(b"pre", 500)), Ok(()));
     assert_eq!(processor.read(at(4, FileType::T, 0), &mut []), Ok(Element::Fields { word1: 500, word2: 0, status: 0 }));
-    let mut refused = |to, value| processor.set(to, value).unwrap_err().0;
+    let mut refused = |to, value| processor.set(to, value).unwrap_err().number();
     let timer = at(4, FileType::T, 0);
     assert_eq!(
         [

@@ -283,6 +283,39 @@ static void replies(void) {
     slc_part p = slc_parse_datalog(raw, n);
     claim(p.from <= n && p.length <= n - p.from, "a part that isn't in the reply");
     compared();
+    calling("slc_question");
+    out = lend_bytes(m);
+    sealed();
+    written(0, slc_question(one_in(2) ? below(30) : next(), out, m));
+    compared();
+}
+
+/* a reply from the requester's id on, mostly with the usual id and a status that has words */
+static uint8_t *lend_reply(size_t n) {
+    uint8_t *reply = lend_bytes(n);
+    if (n && !one_in(4)) reply[0] = one_in(4) ? below(12) : 7;
+    if (n && reply[0] + 1u < n && one_in(2)) reply[reply[0] + 1] = one_in(2) ? 0xF0 : 0x10 * below(16);
+    return reply;
+}
+
+static void bare_replies(void) {
+    size_t n = length_of(24), m = room_of(96);
+    calling("slc_reply_status");
+    uint8_t *reply = lend_reply(n), *out = lend_bytes(m);
+    sealed();
+    written(1, slc_reply_status(reply, n, out, m));
+    compared();
+    calling("slc_reply_datalog");
+    reply = lend_reply(n);
+    sealed();
+    slc_part p = slc_reply_datalog(reply, n);
+    claim(p.from <= n && p.length <= n - p.from, "a part that isn't in the reply");
+    compared();
+    calling("slc_reply_directory_size");
+    reply = lend_reply(n);
+    sealed();
+    refused(slc_reply_directory_size(reply, n, slc_sys0_info(reply, 0)).refused);
+    compared();
 }
 
 static const char *const families[] = {"1747-L552", "1747-L511", "1766-LEC", "1762-L24", "1761-L20", "1785-L20", "", "17"};
@@ -537,7 +570,7 @@ static int found(pccc_call pccc, const char *what, int wanted) {
 }
 
 int main(int argc, char **argv) {
-    static void (*const turns[])(void) = {types, text, elements, requests, replies, directories, lines, processors};
+    static void (*const turns[])(void) = {types, text, elements, requests, replies, bare_replies, directories, lines, processors};
     if (argc < 2) return fprintf(stderr, "usage: guard SEED N | guard --faults\n"), 2;
     setvbuf(stdout, 0, _IOLBF, 0);
     map_arenas();
@@ -552,7 +585,7 @@ int main(int argc, char **argv) {
     unsigned long n = argc > 2 ? strtoul(argv[2], 0, 10) : 1000000;
     int signal = sigsetjmp(fault, 1);
     if (signal) return printf("%s: signal %d after %lu calls of seed %s\n", call, signal, done, argv[1]), 1;
-    for (size_t turn = 0; done < n; turn++) turns[turn % 8]();
+    for (size_t turn = 0; done < n; turn++) turns[turn % (sizeof turns / sizeof *turns)]();
     for (row = tally; row->name; row++) printf("%-32s %8lu calls, %8lu refused\n", row->name, row->made, row->refused);
     printf("%lu calls of seed %s: no fault, %lu stray bytes\n", done, argv[1], strays);
     return strays != 0;

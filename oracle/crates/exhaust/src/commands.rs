@@ -58,7 +58,7 @@ impl Pair {
         // document 01's 18 is the Rust's `None`
         let mut ours = match ours {
             Ok(reply) => Ok(Some(reply)),
-            Err(Refused(18)) => Ok(None),
+            Err(Refused::Command) => Ok(None),
             Err(other) => Err(other),
         };
         if t.spoilt && t.inputs == 1000 {

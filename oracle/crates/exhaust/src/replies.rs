@@ -2,7 +2,7 @@
 use crate::Tally;
 use ciplink::Value;
 use ciplink::slc::pccc;
-use slc_link::STATUS_ROOM;
+use slc_link::{Refused, STATUS_ROOM};
 
 /// Where a raw reply has its status, and where it ends at the most.
 const STATUS: usize = 58;
@@ -29,7 +29,7 @@ fn entry(t: &mut Tally, raw: &[u8]) {
 
 fn size(t: &mut Tally, raw: &[u8], family: &str) {
     let rust = pccc::parse_file_directory_size(raw, &pccc::sys0_info(family)).ok_or(25);
-    let ours = slc_link::parse_file_directory_size(raw, slc_link::sys0_info(family.as_bytes())).map_err(|r| r.0);
+    let ours = slc_link::parse_file_directory_size(raw, slc_link::sys0_info(family.as_bytes())).map_err(Refused::number);
     t.compare(raw, rust.is_ok(), rust, ours);
 }
 

@@ -1,7 +1,7 @@
 //! The client's directory.
 use crate::Tally;
 use ciplink::slc::pccc;
-use slc_link::{FileType, ListedFile};
+use slc_link::{FileType, ListedFile, Refused};
 
 const BYTES: [u8; 7] = [0x00, 0x01, 0x82, 0x83, 0x89, 0x8D, 0xFF];
 const MOST: usize = 6;
@@ -23,7 +23,7 @@ fn rust(first: usize, row: usize, bytes: &[u8]) -> Listed {
 
 fn ours(first: usize, row: usize, bytes: &[u8]) -> Listed {
     let mut out = [ListedFile::default(); MOST];
-    let files = slc_link::parse_file_directory(first, row, bytes, &mut out).map_err(|r| r.0)?;
+    let files = slc_link::parse_file_directory(first, row, bytes, &mut out).map_err(Refused::number)?;
     Ok(files.iter().map(|f| (f.code, f.number, f.elements, f.length)).collect())
 }
 

@@ -29,7 +29,7 @@ fn our_address(text: &[u8]) -> Result<Option<Fields>, Refused> {
         Ok(a) => {
             Ok(Some((a.file_type.code(), a.file_number, a.element_number, a.position, a.sub_element, a.bit, a.element_count, a.kept)))
         }
-        Err(Refused(2)) => Ok(None),
+        Err(Refused::Tag) => Ok(None),
         Err(other) => Err(other),
     }
 }
@@ -47,7 +47,7 @@ fn our_request(text: &[u8]) -> Result<Vec<u8>, u8> {
     let mut out = [0; REQUEST_ROOM];
     match slc_link::read_request(text, slc_link::Requestor::default(), SEQUENCE, &mut out) {
         Ok(request) => Ok(request.message.to_vec()),
-        Err(Refused(n)) => Err(n),
+        Err(refused) => Err(refused.number()),
     }
 }
 

@@ -21,7 +21,7 @@ fn decoded(t: &mut Tally, file_type: FileType, word: u16) {
 /// The element's bytes afterwards, and whether it was set; document 01's 22 is the Rust's error.
 fn encoded(t: &mut Tally, file_type: FileType, whole: i64) {
     let (mut theirs, mut bytes) = ([0xA5; 2], [0xA5; 2]);
-    let rust = access::encode(file_type.code(), &whole.into(), &mut theirs).expect("one of the twelve").map_err(|_| Refused(22));
+    let rust = access::encode(file_type.code(), &whole.into(), &mut theirs).expect("one of the twelve").map_err(|_| Refused::Number);
     let ours = slc_link::encode_element(file_type, Value::Whole(whole), &mut bytes);
     t.compare(&whole.to_le_bytes(), rust.is_ok(), (rust, theirs), (ours, bytes));
 }
