@@ -20,7 +20,7 @@ extern "C" {
 
 /* the version of this interface */
 #define SLC_LINK_VERSION_MAJOR 0
-#define SLC_LINK_VERSION_MINOR 1
+#define SLC_LINK_VERSION_MINOR 2
 #define SLC_LINK_VERSION_PATCH 0
 
 /* ---- numbers ---- */

@@ -72,6 +72,16 @@ class Numbers(Refusing):
         with self.assertRaisesRegex(OutOfRange, "a file's number is 0 to 4294967295, not -1"):
             Processor([(-1, Code.N, 1)])
 
+    def test_the_error_says_what_is_no_value(self):
+        for bad in (None, True, 1j, [1]):
+            with self.assertRaises(TypeError) as raised:
+                encode_element(Code.N, bad, bytes(2))
+            self.assertEqual(str(raised.exception), f"no value of an element: {bad!r}")
+        with self.assertRaisesRegex(TypeError, "a value is a whole number, not 1.5"):
+            encode_element(Code.N, Whole(1.5), bytes(2))
+        with self.assertRaisesRegex(OutOfRange, "a value is -9223372036854775808 to 9223372036854775807, not 9223372036854775808"):
+            Processor().set(7, Code.N, 0, 2**63)
+
     def test_a_requester_is_not_cut(self):
         self.assertRaises(OutOfRange, read_request, "N7:0", requestor=([300, 1], b"1234"))
         self.assertRaises(TypeError, read_request, "N7:0", requestor=([1.9, 1], b"1234"))

@@ -20,14 +20,14 @@ default that is enough. The library is the file SLC_LINK_SO, or target/sharedlib
 import struct
 import threading
 from collections.abc import Iterable
-from ctypes import c_size_t, c_uint8, c_uint32
+from ctypes import c_int64, c_size_t, c_uint8, c_uint32
 from enum import IntEnum
 from typing import Any, Literal, NamedTuple, NoReturn, Optional, SupportsIndex, Union
 
 from . import _c
 from ._c import OutOfRange
 
-__version__ = "0.1.0"
+__version__ = "0.2.0"
 __all__ = [
     "REQUEST_ROOM", "WRITE_ROOM", "STATUS_ROOM", "REPLY_ROOM", "TEXT_ROOM", "TAG_ROOM", "MOST_FILES", "MOST_DATA", "COMMAND_AT", "DATA_AT",
     "Refusal", "Refused", "OutOfRange", "question_of",
@@ -280,31 +280,36 @@ class Fields(NamedTuple):
 
 
 # what an element can be set to, and what it is read as
-Value = Union[int, float, Latin1, Whole, Float, Text, Words, Field]
+Value = Union[SupportsIndex, float, Latin1, Whole, Float, Text, Words, Field]
 Element = Union[Whole, Float, Text, Fields]
 
 
-def _whole_value(kind: int, *numbers: Any) -> Any:
-    return _c.made(_c.slc_value, kind=kind, **dict(zip("abc", numbers)))
+def _numbers(kind: int, *numbers: Any) -> Any:
+    whole = [_c.number(c_int64, number, "a value") for number in numbers]
+    return _c.made(_c.slc_value, kind=kind, **dict(zip("abc", whole)))
 
 
 def _value(value: Value) -> tuple[Any, bytes]:
-    """The value for C, and the text beside it. An int is a Whole, a float a Float, text a Text; True and False may mean a bit or a number."""
+    """The value for C, and the text beside it. An int is a Whole, a float a Float, text a Text; True and False could mean a bit or a number."""
     if isinstance(value, float):
         value = Float.of(value)
     elif isinstance(value, (str, bytes, bytearray, memoryview)):
         value = Text(value)
     if isinstance(value, Text):
-        return _whole_value(_c.SLC_TEXT), value.text
+        return _numbers(_c.SLC_TEXT), value.text
     if isinstance(value, Field):
         # a status bit is set to True or False as well
         number = int(value.number) if isinstance(value.number, bool) else value.number
-        return _whole_value(_c.SLC_FIELD, number), _bytes(value.name)
+        return _numbers(_c.SLC_FIELD, number), _bytes(value.name)
     if isinstance(value, Float):
-        return _whole_value(_c.SLC_FLOAT, _c.number(c_uint32, value.bits, "bits")), b""
+        return _numbers(_c.SLC_FLOAT, _c.number(c_uint32, value.bits, "bits")), b""
     if isinstance(value, Words):
-        return _whole_value(_c.SLC_WORDS, *value), b""
-    return _whole_value(_c.SLC_WHOLE, *(value if isinstance(value, Whole) else (value,))), b""
+        return _numbers(_c.SLC_WORDS, *value), b""
+    if isinstance(value, Whole):
+        return _numbers(_c.SLC_WHOLE, value.number), b""
+    if isinstance(value, bool) or not isinstance(value, SupportsIndex):
+        raise TypeError(f"no value of an element: {value!r}")
+    return _numbers(_c.SLC_WHOLE, value), b""
 
 
 def _element(read: Any, text: Any) -> Element:

@@ -168,7 +168,7 @@ def library() -> ctypes.PyDLL:
     path = shared_object()
     if not path.is_file():
         raise FileNotFoundError(errno.ENOENT, "no shared object of the SLC link: build it with `./slc lib python`, or set SLC_LINK_SO to it", str(path))
-    # PyDLL keeps the interpreter's lock: the calls are short, and giving it up and taking it again would cost more than they do
+    # PyDLL keeps the interpreter's lock; the calls are short
     loaded = ctypes.PyDLL(str(path))
     for name, (result, parameters) in CALLS.items():
         try:

@@ -7,20 +7,20 @@
 //! [`Processor::new`] and by cloning a [`Processor`].
 //!
 //! ```
-//! use slc_link::{read_request, FileType, Processor, Refused, Requestor, Spot, Value, REPLY_ROOM, REQUEST_ROOM};
+//! use slc_link::{read_request, FileType, Processor, Refused, Requestor, Spot, Value, COMMAND_AT, DATA_AT, REPLY_ROOM, REQUEST_ROOM};
 //!
 //! // the message that reads N7:0; its PCCC command begins behind the six bytes of service and path
 //! let mut out = [0; REQUEST_ROOM];
 //! let request = read_request(b"N7:0", Requestor::default(), 0x1234, &mut out)?;
 //! assert_eq!(request.address.file_type, FileType::N);
-//! let command = &request.message[6..];
+//! let command = &request.message[COMMAND_AT..];
 //!
 //! // a processor with the default files answers it
 //! let mut processor = Processor::new(&[], b"1747-L552", &[])?;
 //! processor.set(Spot { number: 7, file_type: FileType::N, element: 0 }, Value::Whole(15))?;
 //! let mut reply = [0; REPLY_ROOM];
 //! let reply = processor.pccc(command, &mut reply)?;
-//! assert_eq!(reply[reply.len() - 2..], [15, 0]);
+//! assert_eq!(reply[DATA_AT..], [15, 0]);
 //!
 //! // a bit can't be read with a count above 1
 //! let refused = read_request(b"N7:0/3{2}", Requestor::default(), 0, &mut out).unwrap_err();

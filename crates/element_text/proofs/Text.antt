@@ -42,12 +42,9 @@ string-length s = simp (length-append, low-length, swap-length, fitted-length 82
 -- ---- `slc_string_swap`
 pub padded-length : (s : List ℕ) → length (paddedSwap s) ≡ length s + length s % 2
 unfolding paddedSwap
-padded-length s = swap-length (s ++ replicate (length s % 2) 0) ∙ rw (length-append, length-replicate)
+padded-length s = swap-length _ ∙ rw (length-append, length-replicate)
 
 module _ (s l : List ℕ) where
-  pub no-room : length l < length s + length s % 2 → (swapped.Refused 6 ≡ writtenOf (paddedSwap s) l) × (l ≡ outOf (paddedSwap s) l)
-  no-room h = let t : ltb (length l) (length (paddedSwap s)) ≡ true = lt-ltb (length l) (length (paddedSwap s)) (rw (padded-length s) h) in (rw t, rw t)
-
   module _ {l₁ l₂ : List ℕ} {r₁ r₂ : ℕ} (h : length s + length s % 2 ≤ length l) (a : Puts l 0 s r₁ l₁) (b : Puts l₁ (length s) (lowFirst (length s % 2) 0) r₂ l₂) where
     written : l₂ ≡ put l 0 (s ++ replicate (length s % 2) 0)
     written =
@@ -69,6 +66,9 @@ module _ (s l : List ℕ) where
         let x : part ≡ paddedSwap s = e ∙ ap swapPairs (ap (take (length s + length s % 2)) written ∙ put-first l (s ++ replicate (length s % 2) 0) (length s + length s % 2) whole h) in
         let y : drop (length s + length s % 2) l₂ ≡ drop (length s + length s % 2) l = ap (drop (length s + length s % 2)) written ∙ put-rest l (s ++ replicate (length s % 2) 0) (length s + length s % 2) whole h in
         (rw t (ap swapped.Written (sym n)), rw t (rw (x, y) (ap (λ (k : ℕ). paddedSwap s ++ drop k l) (sym (zero-add (length (paddedSwap s)) ∙ n)))))
+
+  pub no-room : length l < length s + length s % 2 → (swapped.Refused 6 ≡ writtenOf (paddedSwap s) l) × (l ≡ outOf (paddedSwap s) l)
+  no-room h = let t : ltb (length l) (length (paddedSwap s)) ≡ true = lt-ltb (length l) (length (paddedSwap s)) (rw (padded-length s) h) in (rw t, rw t)
 
 -- ---- `encode_pccc_string`
 module _ (s : List ℕ) (n : ℕ) (e : n ≡ min 82 (length s)) where
