@@ -286,6 +286,9 @@ class Replies(Refusing):
         rows = bytes.fromhex("EE 82 04 00 81 00 00 89 06 00")
         self.assertEqual(parse_file_directory(1, 3, rows), [(0, Code.O, 2, 4), (2, Code.N, 3, 6)])
         self.refused(7, parse_file_directory, 1, 3, bytes(65536))
+        # 7 before 8
+        self.refused(7, parse_file_directory, 0, 0, bytes(65536))
+        self.refused(8, parse_file_directory, 0, 0, bytes(65535))
         self.refused(8, parse_file_directory, 1, 0, rows)
         self.refused(9, parse_file_directory, 1, 3, rows[:9])
         self.refused(10, parse_file_directory, 1, 3, rows, room=1)
