@@ -17,7 +17,8 @@ use Rattle.processor_table.proofs.survey.Symbol as survey-def
 use Rattle.processor_table.proofs.survey.Symbol.{name as #processor-table·survey}
 use Rattle.processor_table.proofs.survey.Met as survey-thm
 use Rattle.processor_walks.proofs.Callees.{Surveys}
-use Rattle.processor_element.proofs.Reading.{Said, Says, Fits, Cores, read-meets}
+use Rattle.processor_element.proofs.Accessing.{Said, Says, Fits}
+use Rattle.processor_element.proofs.Reading.{Cores, read-meets}
 use Rattle.processor_element.proofs.Wanting.{spot, element}
 use Rattle.processor_element.proofs.read.Key.{name as #processor-element·read}
 use Rattle.processor_element.proofs.read as self

@@ -16,7 +16,8 @@ use Rattle.processor_table.proofs.survey.Symbol as survey-def
 use Rattle.processor_table.proofs.survey.Symbol.{name as #processor-table·survey}
 use Rattle.processor_table.proofs.survey.Met as survey-thm
 use Rattle.processor_walks.proofs.Callees.{Surveys}
-use Rattle.processor_element.proofs.Setting.{Said, Says, Fits, Cores, set-meets}
+use Rattle.processor_element.proofs.Accessing.{Said, Says, Fits}
+use Rattle.processor_element.proofs.Setting.{Cores, set-meets}
 use Rattle.processor_element.proofs.Wanting.{setting, stored}
 use Rattle.processor_element.proofs.set.Key.{name as #processor-element·set}
 use Rattle.processor_element.proofs.set as self

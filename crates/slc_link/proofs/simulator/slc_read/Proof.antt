@@ -14,7 +14,8 @@ use Rattle.processor_table.proofs.survey.Symbol as survey-def
 use Rattle.processor_table.proofs.survey.Symbol.{name as #processor-table·survey}
 use Rattle.processor_table.proofs.survey.Met as survey-thm
 use Rattle.processor_walks.proofs.Callees.{Surveys}
-use Rattle.processor_element.proofs.Reading.{Said, Says, Fits, Cores, read-meets}
+use Rattle.processor_element.proofs.Accessing.{Said, Says, Fits}
+use Rattle.processor_element.proofs.Reading.{Cores, read-meets}
 use Rattle.link_element_access.proofs.read_element.Symbol as core-def
 use Rattle.link_element_access.proofs.read_element.Symbol.{name as #link-element-access·read-element}
 use Rattle.link_element_access.proofs.read_element.Met as core-thm

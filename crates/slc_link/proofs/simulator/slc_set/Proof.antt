@@ -13,7 +13,8 @@ use Rattle.processor_table.proofs.survey.Symbol as survey-def
 use Rattle.processor_table.proofs.survey.Symbol.{name as #processor-table·survey}
 use Rattle.processor_table.proofs.survey.Met as survey-thm
 use Rattle.processor_walks.proofs.Callees.{Surveys}
-use Rattle.processor_element.proofs.Setting.{Said, Says, Fits, Cores, set-meets}
+use Rattle.processor_element.proofs.Accessing.{Said, Says, Fits}
+use Rattle.processor_element.proofs.Setting.{Cores, set-meets}
 use Rattle.link_element_access.proofs.set_element.Symbol as core-def
 use Rattle.link_element_access.proofs.set_element.Symbol.{name as #link-element-access·set-element}
 use Rattle.link_element_access.proofs.set_element.Met as core-thm
