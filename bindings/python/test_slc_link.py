@@ -495,7 +495,7 @@ class ThePackage(unittest.TestCase):
 
     @unittest.skipUnless(shutil.which("mypy"), "no mypy")
     def test_types_are_strict(self):
-        done = subprocess.run(["mypy", "--strict", "--cache-dir", os.devnull, "slc_link", "test_types.py"], cwd=self.HERE, capture_output=True, text=True)
+        done = subprocess.run(["mypy", "--strict", "--cache-dir", os.devnull, "slc_link", "test_types.py", "../../examples/shared_requests.py"], cwd=self.HERE, capture_output=True, text=True)
         self.assertEqual(done.returncode, 0, done.stdout + done.stderr)
 
 

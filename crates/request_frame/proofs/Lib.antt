@@ -1,1 +1,2 @@
+pub mod FieldsTold
 pub mod Laid

@@ -1,32 +1,29 @@
--- A message says its size, file, type code, element and position: the processor's reader reads them back.
-use Prim.Native.Nat.{ℕ, _*_, _≤_, _<_}
-use mathlib.Core.Path.{_≡_, refl, ap, ap₂, sym, _∙_}
+-- A message tells its elements (request_spec/ElementsTold), for an accepted address has numbers that its fields hold.
+use Prim.Native.Nat.{ℕ, _+_, _≤_, _<_}
+use mathlib.Core.Path.{_≡_, refl, ap, ap₂, sym, subst, _∙_}
+use mathlib.Core.Logic.{_↔_}
 use mathlib.Core.Bool.{Bool, true, false, _&&_, cond}
-use mathlib.Core.List.{List, [], _∷_, _++_, append-nil, append-assoc}
+use mathlib.Core.List.{List, [], _++_}
 use mathlib.Core.Option.{Option, none, some}
-use native.Mathlib.Nat.{eq-of-mul-eq-mul-left}
 use native.Mathlib.Omega.{arith}
 use borrow.Author.Tests.{leb-true, eqb-true}
 use lib.Dec.{leb, eqb}
-use lib.ListN.{length, drop}
+use lib.ListN.{length, take, drop, take-append-drop}
+use lib.Seq.{take-append-seam}
+use Rattle.base.specs.Put.{put}
 use Rattle.file_type.specs.declared.FileType.{FileType}
 use Rattle.file_type.specs.declared.FileType.the-variants.{O, I, S, B, T, C, R, N, F, ST, A, L, MG, PD, PLS}
-use Rattle.file_type.specs.declared.Known.the-variants as known
-use Rattle.file_type.specs.Table.{row, ofCode}
-use Rattle.file_type.proofs.FileTypes.{size-some, own-code}
 use Rattle.address_spec.specs.declared.Address.{Address}
 use Rattle.address_spec.specs.declared.Parsed.{Parsed}
 use Rattle.address_spec.specs.declared.Parsed.the-variants as parsed
 use Rattle.address_spec.specs.Elements.{Elements, elementsOf, filed, slotted, allowed, spellable}
-use Rattle.address_spec.specs.Spelling.{addressOf}
+use Rattle.address_spec.specs.Spelling.{addressOf, accepted, ascii, formOf, separates}
 use Rattle.address_spec.proofs.Ranges.{can}
-use Rattle.request_frame.specs.RequestFrame.{addressField, commandHead, twoAddresses, threeAddresses, typed}
-use Rattle.request_frame.specs.declared.Target.{Target}
 use Rattle.request_frame.specs.declared.Requestor.{Requestor}
-use Rattle.request_spec.specs.Request.{Asked, refused, sends, bitAndCount, place, readSize, readMessage, readAddress, onAddress, reading}
-use Rattle.processor_spec.specs.Params.{Header, header, address}
-use Rattle.theorem_one_request.proofs.Requests.{address-back, header-back}
-use Rattle.theorem_one_request.specs.OneRequest.{OneRequest}
+use Rattle.request_spec.specs.declared.Request.the-variants as request
+use Rattle.request_spec.specs.Request.{Asked, refused, sends, bitAndCount, readSize, readMessage, readAddress, onAddress, reading, Builds}
+use Rattle.request_spec.proofs.ElementsTold.{InFields, read-told}
+use Rattle.theorem_one_request.specs.OneRequest.{OneRequest, Accepts, OneRequestOfCalls, OneRequestByOneLength}
 
 -- ---- ranges
 both : (a b : Bool) → (a && b) ≡ true → (a ≡ true) × (b ≡ true)
@@ -36,11 +33,8 @@ both false b e = absurd (let z : _≡_ {A = ℕ} 0 1 = cc in omega arith)
 never : {X : Type 0} → false ≡ true → X
 never e = absurd (let z : _≡_ {A = ℕ} 0 1 = cc in omega arith)
 
-abbrev Words : Elements → Type 0
-Words e = (e .file < 65536) × (e .element < 65536) × (e .position < 65536)
-
 module _ (e : Elements) where
-  of-filed : filed e ≡ true → Words e
+  of-filed : filed e ≡ true → InFields e
   of-filed h =
       let p = both (leb 1 (e .file) && leb (e .file) 255 && leb (e .element) 255) (eqb (e .position) 0) h in
       let n = both (leb 1 (e .file) && leb (e .file) 255) (leb (e .element) 255) (p .0) in
@@ -49,7 +43,7 @@ module _ (e : Elements) where
       let z : e .position ≡ 0 = eqb-true _ _ (p .1) in
       (omega arith, omega arith, omega arith)
 
-  of-slot : (f : ℕ) → f ≤ 1 → slotted f e ≡ true → Words e
+  of-slot : (f : ℕ) → f ≤ 1 → slotted f e ≡ true → InFields e
   of-slot f l h =
       let p = both (eqb (e .file) f && leb (e .element) 255) (leb (e .position) 999) h in
       let n = both (eqb (e .file) f) (leb (e .element) 255) (p .0) in
@@ -58,7 +52,7 @@ module _ (e : Elements) where
       let z : e .position ≤ 999 = leb-true _ _ (p .1) in
       (omega arith, omega arith, omega arith)
 
-  of-status : (eqb (e .file) 2 && leb (e .element) 255 && eqb (e .position) 0) ≡ true → Words e
+  of-status : (eqb (e .file) 2 && leb (e .element) 255 && eqb (e .position) 0) ≡ true → InFields e
   of-status h =
       let p = both (eqb (e .file) 2 && leb (e .element) 255) (eqb (e .position) 0) h in
       let n = both (eqb (e .file) 2) (leb (e .element) 255) (p .0) in
@@ -67,112 +61,135 @@ module _ (e : Elements) where
       let z : e .position ≡ 0 = eqb-true _ _ (p .1) in
       (omega arith, omega arith, omega arith)
 
-  words : (t : FileType) → allowed t e ≡ true → Words e
-  words O h = of-slot 0 (omega arith) h
-  words I h = of-slot 1 (omega arith) h
-  words S h = of-status h
-  words B h = of-filed h
-  words T h = of-filed (both (filed e) (eqb (e .count) 1) h .0)
-  words C h = of-filed (both (filed e) (eqb (e .count) 1) h .0)
-  words R h = never h
-  words N h = of-filed h
-  words F h = of-filed h
-  words ST h = of-filed (both (filed e) (leb 1 (e .count) && leb (e .count) 2) h .0)
-  words A h = of-filed h
-  words L h = of-filed h
-  words MG h = never h
-  words PD h = never h
-  words PLS h = never h
+  fields : (t : FileType) → allowed t e ≡ true → InFields e
+  fields O h = of-slot 0 (omega arith) h
+  fields I h = of-slot 1 (omega arith) h
+  fields S h = of-status h
+  fields B h = of-filed h
+  fields T h = of-filed (both (filed e) (eqb (e .count) 1) h .0)
+  fields C h = of-filed (both (filed e) (eqb (e .count) 1) h .0)
+  fields R h = never h
+  fields N h = of-filed h
+  fields F h = of-filed h
+  fields ST h = of-filed (both (filed e) (leb 1 (e .count) && leb (e .count) 2) h .0)
+  fields A h = of-filed h
+  fields L h = of-filed h
+  fields MG h = never h
+  fields PD h = never h
+  fields PLS h = never h
 
-  in-words : spellable e ≡ true → Words e
+  in-fields : spellable e ≡ true → InFields e
   unfolding spellable
-  in-words h = words (e .type) h
-
--- ---- what the bytes tell
-after-same : (p r s : List ℕ) → p ++ r ≡ p ++ s → r ≡ s
-after-same [] r s e = e
-after-same (a ∷ p) r s e = let k : p ++ r ≡ p ++ s = cc in after-same p r s k
-
-some-same : {X : Type 0} {x y : X} → some x ≡ some y → x ≡ y
-some-same e = cc
-
-code-same : (t u : FileType) → row t .code ≡ row u .code → t ≡ u
-code-same t u e = let k : known.Is t ≡ known.Is u = own-code t ∙ ap ofCode e ∙ sym (own-code u) in cc
-
--- equal sizes of one type are equal counts
-count-same : (t : FileType) (n m : ℕ) → row t .size * n ≡ row t .size * m → n ≡ m
-count-same t n m e = eq-of-mul-eq-mul-left (row t .size) (size-some t) n m e
-
-abbrev elements : FileType → ℕ → ℕ → ℕ → ℕ → Elements
-elements t f e p n = record { type = t; file = f; element = e; position = p; count = n }
-
-same : {t u : FileType} {f g e d p r n m : ℕ} → t ≡ u → f ≡ g → e ≡ d → p ≡ r → n ≡ m → elements t f e p n ≡ elements u g d r m
-same a b c p n = rw (a, b, c, p, n)
-
-headOf : Elements → Header
-headOf e = record { size = readSize e; file = e .file; code = row (e .type) .code; element = e .element }
-
--- the header and the last address, read back from a message
-module _ (q : Requestor) (sequence : ℕ) (e : Elements) (w : Words e) where
-  fields : List ℕ
-  fields = drop 1 (twoAddresses 0xA2 (readSize e) (place e (e .position))) ++ addressField (e .position)
-
-  message : readMessage q sequence e ≡ commandHead q 0x0F sequence ++ (0xA2 ∷ fields)
-  unfolding readMessage typed threeAddresses twoAddresses fields
-  message = refl
-
-  told : header fields ≡ some (headOf e, addressField (e .position))
-  unfolding fields headOf
-  told = header-back 0xA2 (readSize e) (place e (e .position)) (addressField (e .position)) (w .0) (w .1)
-
-  last-told : address (addressField (e .position)) ≡ some (e .position, [])
-  last-told = ap address (sym (append-nil (addressField (e .position)))) ∙ address-back (e .position) [] (w .2)
-
-module _ (q : Requestor) (sequence : ℕ) (e d : Elements) (v : Words e) (w : Words d) where
-  bytes-tell : readMessage q sequence e ≡ readMessage q sequence d → e ≡ d
-  unfolding headOf readSize
-  bytes-tell h =
-      let k : 0xA2 ∷ fields q sequence e v ≡ 0xA2 ∷ fields q sequence d w = after-same (commandHead q 0x0F sequence) _ _ (sym (message q sequence e v) ∙ h ∙ message q sequence d w) in
-      let f : fields q sequence e v ≡ fields q sequence d w = cc in
-      let p : _≡_ {A = Option (Header × List ℕ)} (some (headOf e, addressField (e .position))) (some (headOf d, addressField (d .position))) = sym (told q sequence e v) ∙ ap header f ∙ told q sequence d w in
-      let a : addressField (e .position) ≡ addressField (d .position) = ap (λ (x : Header × List ℕ). x .1) (some-same p) in
-      let z : _≡_ {A = Option (ℕ × List ℕ)} (some (e .position, [])) (some (d .position, [])) = sym (last-told q sequence e v) ∙ ap address a ∙ last-told q sequence d w in
-      let head : headOf e ≡ headOf d = ap (λ (x : Header × List ℕ). x .0) (some-same p) in
-      let t : e .type ≡ d .type = code-same (e .type) (d .type) (ap (λ (x : Header). x .code) head) in
-      let s : row (e .type) .size * e .count ≡ row (e .type) .size * d .count = ap (λ (x : Header). x .size) head ∙ ap (λ (u : FileType). row u .size * d .count) (sym t) in
-      let position : e .position ≡ d .position = ap (λ (x : ℕ × List ℕ). x .0) (some-same z) in
-      same t (ap (λ (x : Header). x .file) head) (ap (λ (x : Header). x .element) head) position (count-same (e .type) (e .count) (d .count) s)
+  in-fields h = fields (e .type) h
 
 -- ---- what is sent is the message of the address's elements, which can be spelled
 record Sent (q : Requestor) (sequence : ℕ) (x : Address) (m : List ℕ) : Type 0 where
   bytes : m ≡ readMessage q sequence (elementsOf x)
-  range : Words (elementsOf x)
+  range : InFields (elementsOf x)
 
-sent : (tag : List ℕ) (q : Requestor) (sequence : ℕ) (out : List ℕ) (x : Address) (m : List ℕ) → reading tag q sequence out ≡ sends x m → Sent q sequence x m
-unfolding onAddress readAddress
-sent tag q sequence out x m = go (addressOf tag) refl
+-- a refusal has a number, 0 is none
+abbrev Some : Parsed → Type 0
+Some (parsed.Refused k) = 0 < k
+Some (parsed.Is x) = Unit {0}
+
+some-number : (tag : List ℕ) → Some (addressOf tag)
+unfolding addressOf
+some-number tag = go (leb (length tag) 255 && ascii tag) (formOf separates tag)
   where
-    refusal : {X : Type 0} {k : ℕ} → refused k ≡ sends x m → X
-    refusal h = absurd (let w : _≡_ {A = ℕ} 0 1 = cc in omega arith)
+    go : (b : Bool) (f : Option Address) → Some (cond b (accepted f) (parsed.Refused 1))
+    go true none = omega arith
+    go true (some x) = tt
+    go false f = omega arith
 
-    by-tests : (y : Address) → addressOf tag ≡ parsed.Is y → (a b c : Bool) → cond a (refused 3) (cond b (cond c (sends y (readMessage q sequence (elementsOf y))) (refused 6)) (refused 5)) ≡ sends x m → Sent q sequence x m
-    by-tests y e true b c h = refusal h
-    by-tests y e false false c h = refusal h
-    by-tests y e false true false h = refusal h
-    by-tests y e false true true h =
-        let i : y ≡ x = cc in
-        let j : readMessage q sequence (elementsOf y) ≡ m = cc in
-        let k : addressOf tag ≡ parsed.Is x = e ∙ ap parsed.Is i in
-        record { bytes = sym j ∙ ap (λ (z : Address). readMessage q sequence (elementsOf z)) i; range = in-words (elementsOf x) (can tag x k) }
+abbrev Reads : Requestor → ℕ → Asked → Type 0
+Reads q sequence (refused k) = 0 < k
+Reads q sequence (sends x m) = Sent q sequence x m
 
-    go : (p : Parsed) → addressOf tag ≡ p → onAddress p (readAddress q sequence (length out)) ≡ sends x m → Sent q sequence x m
-    go (parsed.Refused k) e h = refusal h
-    go (parsed.Is y) e h = by-tests y e (bitAndCount y) (leb (readSize (elementsOf y)) 255) (leb 27 (length out)) h
+reads : (tag : List ℕ) (q : Requestor) (sequence : ℕ) (out : List ℕ) → Reads q sequence (reading tag q sequence out)
+unfolding onAddress readAddress
+reads tag q sequence out = go (addressOf tag) refl
+  where
+    by-tests : (x : Address) → addressOf tag ≡ parsed.Is x → (a b c : Bool) → Reads q sequence (cond a (refused 3) (cond b (cond c (sends x (readMessage q sequence (elementsOf x))) (refused 6)) (refused 5)))
+    by-tests x e true b c = omega arith
+    by-tests x e false false c = omega arith
+    by-tests x e false true false = omega arith
+    by-tests x e false true true = record { bytes = refl; range = in-fields (elementsOf x) (can tag x e) }
+
+    go : (p : Parsed) → addressOf tag ≡ p → Reads q sequence (onAddress p (readAddress q sequence (length out)))
+    go (parsed.Refused k) e = subst Some e (some-number tag)
+    go (parsed.Is x) e = by-tests x e (bitAndCount x) (leb (readSize (elementsOf x)) 255) (leb 27 (length out))
+
+pub refusal-some : (tag : List ℕ) (q : Requestor) (sequence : ℕ) (out : List ℕ) (k : ℕ) → reading tag q sequence out ≡ refused k → 0 < k
+refusal-some tag q sequence out k h = subst (Reads q sequence) h (reads tag q sequence out)
+
+-- the elements of two messages, with anything behind them
+told : {q : Requestor} {sequence : ℕ} {x y : Address} {m n : List ℕ} → Sent q sequence x m → Sent q sequence y n → (r s : List ℕ) → m ++ r ≡ n ++ s → elementsOf x ≡ elementsOf y
+told {q} {sequence} {x} {y} {m} {n} a b r s h =
+    read-told q sequence (elementsOf x) (elementsOf y) r s (a .range) (b .range) (ap (λ (l : List ℕ). l ++ r) (sym (a .bytes)) ∙ h ∙ ap (λ (l : List ℕ). l ++ s) (b .bytes))
+
+-- and the other way
+bytes-same : {q : Requestor} {sequence : ℕ} {x y : Address} {m n : List ℕ} → Sent q sequence x m → Sent q sequence y n → elementsOf x ≡ elementsOf y → m ≡ n
+bytes-same {q} {sequence} a b z = a .bytes ∙ ap (readMessage q sequence) z ∙ sym (b .bytes)
 
 pub one-request : OneRequest
 one-request s t q sequence out out′ x y m n h k =
-    let a : Sent q sequence x m = sent s q sequence out x m h in
-    let b : Sent q sequence y n = sent t q sequence out′ y n k in (
-      (λ z. bytes-tell q sequence (elementsOf x) (elementsOf y) (a .range) (b .range) (sym (a .bytes) ∙ z ∙ b .bytes)),
-      (λ z. a .bytes ∙ ap (readMessage q sequence) z ∙ sym (b .bytes)),
-    )
+    let a : Sent q sequence x m = subst (Reads q sequence) h (reads s q sequence out) in
+    let b : Sent q sequence y n = subst (Reads q sequence) k (reads t q sequence out′) in
+    ((λ z. told a b [] [] (ap (λ (l : List ℕ). l ++ []) z)), bytes-same a b)
+
+-- ---- of the call
+-- its message stands in front of what it leaves
+module _ {q : Requestor} {sequence : ℕ} where
+  record Message (a : Accepts q sequence) : Type 0 where
+    bytes : List ℕ
+    behind : List ℕ
+    sends-it : reading (a .tag) q sequence (a .out) ≡ sends (a .address) bytes
+    count : a .length ≡ length bytes
+    front : take (a .length) (a .left) ≡ bytes
+    whole : a .left ≡ bytes ++ behind
+
+  message : (a : Accepts q sequence) → Message a
+  unfolding put
+  message a = go (reading (a .tag) q sequence (a .out)) refl (a .meets)
+    where
+      go : (o : Asked) → reading (a .tag) q sequence (a .out) ≡ o → Builds o (a .out) (request.Built (a .address) (a .length)) (a .left) → Message a
+      go (refused k) e b = let h : request.Built (a .address) (a .length) ≡ request.Refused k = b .answer in absurd (let w : _≡_ {A = ℕ} 0 1 = cc in omega arith)
+      go (sends y m) e b =
+          let h : request.Built (a .address) (a .length) ≡ request.Built y (length m) = b .answer in
+          let x : y ≡ a .address = cc in
+          let n : a .length ≡ length m = cc in
+          let w : a .left ≡ m ++ drop (0 + length m) (a .out) = b .now in
+          record {
+            bytes = m;
+            behind = drop (0 + length m) (a .out);
+            sends-it = e ∙ ap (λ (z : Address). sends z m) x;
+            count = n;
+            front = ap₂ take n w ∙ take-append-seam m (drop (0 + length m) (a .out));
+            whole = w;
+          }
+
+  sent-by : (a : Accepts q sequence) → Sent q sequence (a .address) (message a .bytes)
+  sent-by a = subst (Reads q sequence) (message a .sends-it) (reads (a .tag) q sequence (a .out))
+
+pub one-request-of-calls : OneRequestOfCalls
+one-request-of-calls q sequence a b =
+    let same : (message a .bytes ≡ message b .bytes) ↔ (elementsOf (a .address) ≡ elementsOf (b .address)) =
+    one-request (a .tag) (b .tag) q sequence (a .out) (b .out) (a .address) (b .address) _ _ (message a .sends-it) (message b .sends-it) in
+    ((λ z. same .0 (sym (message a .front) ∙ z ∙ message b .front)), (λ z. message a .front ∙ same .1 z ∙ sym (message b .front)))
+
+-- a message that the other output begins with, and what follows it there, are that output
+pub one-request-by-one-length : OneRequestByOneLength
+one-request-by-one-length q sequence a b = (goes, comes)
+  where
+    goes : take (a .length) (a .left) ≡ take (a .length) (b .left) → elementsOf (a .address) ≡ elementsOf (b .address)
+    goes z =
+        let rest : List ℕ = drop (a .length) (b .left) in
+        let h : message a .bytes ++ rest ≡ message b .bytes ++ message b .behind =
+        ap (λ (l : List ℕ). l ++ rest) (sym (message a .front) ∙ z) ∙ take-append-drop (a .length) (b .left) ∙ message b .whole in
+        told (sent-by a) (sent-by b) rest (message b .behind) h
+
+    comes : elementsOf (a .address) ≡ elementsOf (b .address) → take (a .length) (a .left) ≡ take (a .length) (b .left)
+    comes z =
+        let m : message a .bytes ≡ message b .bytes = bytes-same (sent-by a) (sent-by b) z in
+        let n : a .length ≡ b .length = message a .count ∙ ap length m ∙ sym (message b .count) in
+        message a .front ∙ m ∙ sym (message b .front) ∙ ap (λ (k : ℕ). take k (b .left)) (sym n)
