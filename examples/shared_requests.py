@@ -1,14 +1,15 @@
 """Which addresses of a list share one read request: a capture can't tell these apart.
 
 Takes addresses, one to a line. Prints each request from its function byte on (in the 17 bytes in front only requester and sequence number vary), what it reads,
-and below it the addresses that give it. After `./slc lib python`:
+and under it the addresses that give it. After `./slc lib python`:
 
     PYTHONPATH=bindings/python python3 examples/shared_requests.py [FILE]
 
-That addresses below one request agree in type, file, element, position (a missing one counts as 0) and count, and addresses below two don't, is proved of
+That addresses under one request agree in type, file, element, position (a missing one counts as 0) and count, and addresses under two don't, is proved of
 the call that is made here, slc_read_request: OneRequestOfExports in crates/theorem_one_request/specs/Exported.antt. The bit isn't on the wire.
 
 An empty line is passed over. Any other that is no read address is told on standard error, with the question that was answered with no; the exit status is then 1.
+Where the list or the library can't be read it is 2.
 """
 import argparse
 import signal
@@ -22,7 +23,7 @@ FUNCTION_AT = 17
 
 
 def shown(tag: bytes) -> str:
-    """A tag as a text of one line: backslashes, control characters and bytes above 127 escaped. The separator of a timer or counter may be any byte."""
+    """A tag as a text of one line: backslashes, control characters and bytes above 127 escaped. The separator of a timer or counter may be such a character."""
     return tag.decode("latin-1").encode("unicode_escape").decode("ascii")
 
 
@@ -45,11 +46,12 @@ def main() -> int:
     parser.add_argument("file", nargs="?", type=Path, help="the addresses; standard input if there is none")
     file = parser.parse_args().file
     try:
-        text = file.read_bytes() if file else sys.stdin.buffer.read()
+        with open(0 if file is None else file, "rb") as source:
+            text = source.read()
+        # a list that comes from Windows may have a byte order mark, and carriage returns
+        groups, refused = grouped([line.removesuffix(b"\r") for line in text.removeprefix(b"\xEF\xBB\xBF").split(b"\n")])
     except OSError as why:
         parser.error(str(why))
-    # a list that comes from Windows may have a byte order mark, and carriage returns
-    groups, refused = grouped([line.removesuffix(b"\r") for line in text.removeprefix(b"\xEF\xBB\xBF").split(b"\n")])
     for line in refused:
         print(line, file=sys.stderr)
     for message, (a, tags) in groups.items():

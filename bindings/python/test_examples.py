@@ -13,8 +13,8 @@ EXAMPLES = HERE.parents[1] / "examples"
 
 
 class SharedRequests(unittest.TestCase):
-    def run_on(self, *arguments, text=b""):
-        done = subprocess.run([sys.executable, EXAMPLES / "shared_requests.py", *arguments], input=text, env={**os.environ, "PYTHONPATH": str(HERE)}, capture_output=True)
+    def run_on(self, *arguments, text=b"", **env):
+        done = subprocess.run([sys.executable, EXAMPLES / "shared_requests.py", *arguments], input=text, env={**os.environ, "PYTHONPATH": str(HERE), **env}, capture_output=True)
         return done.stdout.decode(), done.stderr.decode(), done.returncode
 
     def test_the_list(self):
@@ -44,6 +44,11 @@ class SharedRequests(unittest.TestCase):
         said, told, status = self.run_on("not-there.txt")
         self.assertEqual((said, status), ("", 2))
         self.assertIn("not-there.txt", told)
+
+    def test_a_library_that_is_missing(self):
+        said, told, status = self.run_on(text=b"N7:0", SLC_LINK_SO="not-there.so")
+        self.assertEqual((said, status), ("", 2))
+        self.assertIn("./slc lib python", told)
 
 
 class OneRequest(unittest.TestCase):

@@ -1,8 +1,8 @@
 -- Every accepted address is in range: its type, file, element, position and count are among those that can be spelled.
 use Prim.Native.Nat.{ℕ, _/_, _≤_}
-use mathlib.Core.Path.{_≡_, refl, ap, sym, _∙_, subst}
+use mathlib.Core.Path.{_≡_, refl}
 use mathlib.Core.Logic.{_⊎_, inl, inr}
-use mathlib.Core.List.{List, []}
+use mathlib.Core.List.{List}
 use mathlib.Core.Option.{Option, none, some}
 use mathlib.Core.Bool.{Bool, true, false, _&&_, cond}
 use native.Mathlib.Omega.{arith}
@@ -12,11 +12,10 @@ use lib.ListN.{length}
 use Rattle.file_type.specs.declared.FileType.{FileType}
 use Rattle.file_type.specs.declared.FileType.the-variants.{O, I, S, B, T, C, R, N, F, ST, A, L, MG, PD, PLS}
 use Rattle.parser_spec.specs.Parts.{digitsIn}
-use Rattle.parser_spec.proofs.Held.{Holds, nothing, that, and-next, and-any, held-of, whole-some, after-held, first-held, here-held, in-held, one-or-two-held}
+use Rattle.parser_spec.proofs.Held.{Holds, that, and-next, and-any, held-of, whole-some, after-held, first-held, here-held, in-held, one-or-two-held}
 use Rattle.address_spec.specs.Elements.{Elements, elementsOf, filed, slotted, allowed, spellable}
 use Rattle.address_spec.specs.Spelling.{fileBefore, optionalPosition, slots, slot, stOrA, ct, lfbn, io, sta, status, bits, orTry, lastForms, separates, formOf, accepted, ascii, addressOf}
 use Rattle.address_spec.specs.declared.Address.{Address}
-use Rattle.address_spec.specs.declared.Parsed.{Parsed}
 use Rattle.address_spec.specs.declared.Parsed.the-variants as parsed
 
 abbrev pub CanSpell : Address → Type 0
@@ -147,34 +146,45 @@ can tag x = go (leb (length tag) 255 && ascii tag) (formOf separates tag) (form-
     go true none h q = refused q
     go true (some y) h q = h (cc)
 
--- ---- position 0, or a file of at most 1: so the address fields of a request need at most eight bytes
+-- ---- how large the numbers are; position 0, or a file of at most 1: so the address fields of a request need at most eight bytes
 both : (a b : Bool) → (a && b) ≡ true → (a ≡ true) × (b ≡ true)
 both true b e = (refl, e)
 both false b e = absurd (let z : _≡_ {A = ℕ} 0 1 = cc in omega arith)
 
-abbrev Small : Elements → Type 0
-Small x = (x .position ≡ 0) ⊎ (x .file ≤ 1)
-
 never : {X : Type 0} → false ≡ true → X
 never e = absurd (let z : _≡_ {A = ℕ} 0 1 = cc in omega arith)
 
+pub record Ranged (x : Elements) : Type 0 where
+  pub file : x .file ≤ 255
+  pub element : x .element ≤ 255
+  pub position : x .position ≤ 999
+  pub small : (x .position ≡ 0) ⊎ (x .file ≤ 1)
+
 module _ (x : Elements) where
-  unplaced : (b : Bool) → (b && eqb (x .position) 0) ≡ true → Small x
-  unplaced b h = inl (eqb-true (x .position) 0 (both b _ h .1))
+  unplaced : (b : Bool) → (b ≡ true → x .file ≤ 255) → (b && leb (x .element) 255 && eqb (x .position) 0) ≡ true → Ranged x
+  unplaced b f h =
+      let p = both (b && leb (x .element) 255) (eqb (x .position) 0) h in
+      let n = both b (leb (x .element) 255) (p .0) in
+      let z : x .position ≡ 0 = eqb-true (x .position) 0 (p .1) in
+      record { file = f (n .0); element = leb-true _ _ (n .1); position = omega arith; small = inl z }
 
-  numbered : filed x ≡ true → Small x
-  numbered h = unplaced (leb 1 (x .file) && leb (x .file) 255 && leb (x .element) 255) h
+  numbered : filed x ≡ true → Ranged x
+  numbered h = unplaced (leb 1 (x .file) && leb (x .file) 255) (λ k. leb-true _ _ (both (leb 1 (x .file)) (leb (x .file) 255) k .1)) h
 
-  counted : (b : Bool) → (filed x && b) ≡ true → Small x
+  counted : (b : Bool) → (filed x && b) ≡ true → Ranged x
   counted b h = numbered (both (filed x) b h .0)
 
-  fixed : (f : ℕ) → f ≤ 1 → slotted f x ≡ true → Small x
-  fixed f l h = let e : x .file ≡ f = eqb-true (x .file) f (both _ _ (both _ _ h .0) .0) in inr (omega arith)
+  fixed : (f : ℕ) → f ≤ 1 → slotted f x ≡ true → Ranged x
+  fixed f l h =
+      let p = both (eqb (x .file) f && leb (x .element) 255) (leb (x .position) 999) h in
+      let n = both (eqb (x .file) f) (leb (x .element) 255) (p .0) in
+      let e : x .file ≡ f = eqb-true (x .file) f (n .0) in
+      record { file = omega arith; element = leb-true _ _ (n .1); position = leb-true _ _ (p .1); small = inr (omega arith) }
 
-  by-type : (t : FileType) → allowed t x ≡ true → Small x
+  by-type : (t : FileType) → allowed t x ≡ true → Ranged x
   by-type O h = fixed 0 (omega arith) h
   by-type I h = fixed 1 (omega arith) h
-  by-type S h = unplaced (eqb (x .file) 2 && leb (x .element) 255) h
+  by-type S h = unplaced (eqb (x .file) 2) (λ k. let e : x .file ≡ 2 = eqb-true (x .file) 2 k in omega arith) h
   by-type B h = numbered h
   by-type T h = counted (eqb (x .count) 1) h
   by-type C h = counted (eqb (x .count) 1) h
@@ -188,9 +198,9 @@ module _ (x : Elements) where
   by-type PD h = never h
   by-type PLS h = never h
 
-  pub small-elements : spellable x ≡ true → Small x
+  pub ranged-elements : spellable x ≡ true → Ranged x
   unfolding spellable
-  small-elements h = by-type (x .type) h
+  ranged-elements h = by-type (x .type) h
 
-pub small : (tag : List ℕ) (x : Address) → addressOf tag ≡ parsed.Is x → Small (elementsOf x)
-small tag x e = small-elements (elementsOf x) (can tag x e)
+pub ranged : (tag : List ℕ) (x : Address) → addressOf tag ≡ parsed.Is x → Ranged (elementsOf x)
+ranged tag x e = ranged-elements (elementsOf x) (can tag x e)

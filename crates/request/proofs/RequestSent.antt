@@ -17,7 +17,7 @@ use Rattle.address_spec.specs.declared.Parsed.{Parsed}
 use Rattle.address_spec.specs.declared.Parsed.the-variants as parsed
 use Rattle.address_spec.specs.Elements.{Elements, elementsOf}
 use Rattle.address_spec.specs.Spelling.{addressOf, orZero}
-use Rattle.address_spec.proofs.Ranges.{small}
+use Rattle.address_spec.proofs.Ranges.{ranged}
 use Rattle.request_frame.specs.RequestFrame.{addressField, typed, typedLength}
 use Rattle.request_frame.specs.declared.Target.{Target}
 use Rattle.request_frame.specs.declared.Requestor.{Requestor}
@@ -79,7 +79,7 @@ seven f e p = go
 
 module _ (tag : List ℕ) (x : Address) (e : addressOf tag ≡ parsed.Is x) where
   at-position-27 : typedLength (place (elementsOf x) (orZero (x .«pos_number»))) ≤ 27
-  at-position-27 = seven (x .«file_number») (x .«element_number») (orZero (x .«pos_number»)) (go (small tag x e))
+  at-position-27 = seven (x .«file_number») (x .«element_number») (orZero (x .«pos_number»)) (go (ranged tag x e .small))
     where
       go : (orZero (x .«pos_number») ≡ 0) ⊎ (x .«file_number» ≤ 1) → (orZero (x .«pos_number») < 255) ⊎ (x .«file_number» < 255)
       go (inl h) = inl (omega arith)

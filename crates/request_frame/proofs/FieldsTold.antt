@@ -2,7 +2,7 @@
 use Prim.Native.Nat.{ℕ, _%_, _/_, _≤_, _<_}
 use mathlib.Core.Path.{_≡_, refl}
 use mathlib.Core.Bool.{Bool, true, false, cond}
-use mathlib.Core.List.{List, [], _∷_, _++_, append-assoc}
+use mathlib.Core.List.{List, [], _∷_, _++_, append-assoc, append-cancel-left}
 use native.Mathlib.Omega.{arith}
 use borrow.Author.Tests.{ltb-true}
 use lib.Dec.{ltb}
@@ -10,10 +10,6 @@ use Rattle.base.specs.Numbers.{lowFirst}
 use Rattle.request_frame.specs.RequestFrame.{commandHead, addressField, twoAddresses, threeAddresses, typed}
 use Rattle.request_frame.specs.declared.Target.{Target}
 use Rattle.request_frame.specs.declared.Requestor.{Requestor}
-
-after-same : (p r s : List ℕ) → p ++ r ≡ p ++ s → r ≡ s
-after-same [] r s e = e
-after-same (a ∷ p) r s e = let k : p ++ r ≡ p ++ s = cc in after-same p r s k
 
 -- an address field ends by itself, for its one byte isn't FF, whatever the limit up to 255 (`addressField` gives its own)
 module _ (n m : ℕ) (r s : List ℕ) (hn : n < 65536) (hm : m < 65536) where
@@ -66,7 +62,7 @@ pub typed-told : (q : Requestor) (sequence function size size′ : ℕ) (p p′ 
     → (size ≡ size′) × (p .file ≡ p′ .file) × (p .code ≡ p′ .code) × (p .element ≡ p′ .element) × (p .sub ≡ p′ .sub)
 unfolding typed threeAddresses twoAddresses
 typed-told q sequence function size size′ p p′ r s v w e =
-    let k : function ∷ size ∷ from-file p r ≡ function ∷ size′ ∷ from-file p′ s = after-same (commandHead q 0x0F sequence) _ _ (simp append-assoc at e) in
+    let k : function ∷ size ∷ from-file p r ≡ function ∷ size′ ∷ from-file p′ s = append-cancel-left (commandHead q 0x0F sequence) _ _ (simp append-assoc at e) in
     let f : from-file p r ≡ from-file p′ s = cc in
     let file = field-told (p .file) (p′ .file) _ _ (v .0) (w .0) f in
     let g : from-element p r ≡ from-element p′ s = cc in

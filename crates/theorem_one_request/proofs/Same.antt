@@ -1,91 +1,34 @@
 -- A message tells its elements (request_spec/ElementsTold), for an accepted address has numbers that its fields hold.
-use Prim.Native.Nat.{ℕ, _+_, _≤_, _<_}
+use Prim.Native.Nat.{ℕ, _+_, _<_}
 use mathlib.Core.Path.{_≡_, refl, ap, ap₂, sym, subst, _∙_}
 use mathlib.Core.Logic.{_↔_}
 use mathlib.Core.Bool.{Bool, true, false, _&&_, cond}
 use mathlib.Core.List.{List, [], _++_}
 use mathlib.Core.Option.{Option, none, some}
 use native.Mathlib.Omega.{arith}
-use borrow.Author.Tests.{leb-true, eqb-true}
-use lib.Dec.{leb, eqb}
+use lib.Dec.{leb}
 use lib.ListN.{length, take, drop, take-append-drop}
 use lib.Seq.{take-append-seam}
 use Rattle.base.specs.Put.{put}
-use Rattle.file_type.specs.declared.FileType.{FileType}
-use Rattle.file_type.specs.declared.FileType.the-variants.{O, I, S, B, T, C, R, N, F, ST, A, L, MG, PD, PLS}
 use Rattle.address_spec.specs.declared.Address.{Address}
 use Rattle.address_spec.specs.declared.Parsed.{Parsed}
 use Rattle.address_spec.specs.declared.Parsed.the-variants as parsed
-use Rattle.address_spec.specs.Elements.{Elements, elementsOf, filed, slotted, allowed, spellable}
+use Rattle.address_spec.specs.Elements.{Elements, elementsOf}
 use Rattle.address_spec.specs.Spelling.{addressOf, accepted, ascii, formOf, separates}
-use Rattle.address_spec.proofs.Ranges.{can}
+use Rattle.address_spec.proofs.Ranges.{Ranged, ranged}
 use Rattle.request_frame.specs.declared.Requestor.{Requestor}
 use Rattle.request_spec.specs.declared.Request.the-variants as request
 use Rattle.request_spec.specs.Request.{Asked, refused, sends, bitAndCount, readSize, readMessage, readAddress, onAddress, reading, Builds}
 use Rattle.request_spec.proofs.ElementsTold.{InFields, read-told}
 use Rattle.theorem_one_request.specs.OneRequest.{OneRequest, Accepts, OneRequestOfCalls, OneRequestByOneLength}
 
--- ---- ranges
-both : (a b : Bool) → (a && b) ≡ true → (a ≡ true) × (b ≡ true)
-both true b e = (refl, e)
-both false b e = absurd (let z : _≡_ {A = ℕ} 0 1 = cc in omega arith)
-
-never : {X : Type 0} → false ≡ true → X
-never e = absurd (let z : _≡_ {A = ℕ} 0 1 = cc in omega arith)
-
-module _ (e : Elements) where
-  of-filed : filed e ≡ true → InFields e
-  of-filed h =
-      let p = both (leb 1 (e .file) && leb (e .file) 255 && leb (e .element) 255) (eqb (e .position) 0) h in
-      let n = both (leb 1 (e .file) && leb (e .file) 255) (leb (e .element) 255) (p .0) in
-      let f : e .file ≤ 255 = leb-true _ _ (both (leb 1 (e .file)) (leb (e .file) 255) (n .0) .1) in
-      let k : e .element ≤ 255 = leb-true _ _ (n .1) in
-      let z : e .position ≡ 0 = eqb-true _ _ (p .1) in
-      (omega arith, omega arith, omega arith)
-
-  of-slot : (f : ℕ) → f ≤ 1 → slotted f e ≡ true → InFields e
-  of-slot f l h =
-      let p = both (eqb (e .file) f && leb (e .element) 255) (leb (e .position) 999) h in
-      let n = both (eqb (e .file) f) (leb (e .element) 255) (p .0) in
-      let i : e .file ≡ f = eqb-true _ _ (n .0) in
-      let k : e .element ≤ 255 = leb-true _ _ (n .1) in
-      let z : e .position ≤ 999 = leb-true _ _ (p .1) in
-      (omega arith, omega arith, omega arith)
-
-  of-status : (eqb (e .file) 2 && leb (e .element) 255 && eqb (e .position) 0) ≡ true → InFields e
-  of-status h =
-      let p = both (eqb (e .file) 2 && leb (e .element) 255) (eqb (e .position) 0) h in
-      let n = both (eqb (e .file) 2) (leb (e .element) 255) (p .0) in
-      let i : e .file ≡ 2 = eqb-true _ _ (n .0) in
-      let k : e .element ≤ 255 = leb-true _ _ (n .1) in
-      let z : e .position ≡ 0 = eqb-true _ _ (p .1) in
-      (omega arith, omega arith, omega arith)
-
-  fields : (t : FileType) → allowed t e ≡ true → InFields e
-  fields O h = of-slot 0 (omega arith) h
-  fields I h = of-slot 1 (omega arith) h
-  fields S h = of-status h
-  fields B h = of-filed h
-  fields T h = of-filed (both (filed e) (eqb (e .count) 1) h .0)
-  fields C h = of-filed (both (filed e) (eqb (e .count) 1) h .0)
-  fields R h = never h
-  fields N h = of-filed h
-  fields F h = of-filed h
-  fields ST h = of-filed (both (filed e) (leb 1 (e .count) && leb (e .count) 2) h .0)
-  fields A h = of-filed h
-  fields L h = of-filed h
-  fields MG h = never h
-  fields PD h = never h
-  fields PLS h = never h
-
-  in-fields : spellable e ≡ true → InFields e
-  unfolding spellable
-  in-fields h = fields (e .type) h
-
 -- ---- what is sent is the message of the address's elements, which can be spelled
 record Sent (q : Requestor) (sequence : ℕ) (x : Address) (m : List ℕ) : Type 0 where
   bytes : m ≡ readMessage q sequence (elementsOf x)
   range : InFields (elementsOf x)
+
+in-fields : {e : Elements} → Ranged e → InFields e
+in-fields r = (omega (arith, r .file), omega (arith, r .element), omega (arith, r .position))
 
 -- a refusal has a number, 0 is none
 abbrev Some : Parsed → Type 0
@@ -113,7 +56,7 @@ reads tag q sequence out = go (addressOf tag) refl
     by-tests x e true b c = omega arith
     by-tests x e false false c = omega arith
     by-tests x e false true false = omega arith
-    by-tests x e false true true = record { bytes = refl; range = in-fields (elementsOf x) (can tag x e) }
+    by-tests x e false true true = record { bytes = refl; range = in-fields (ranged tag x e) }
 
     go : (p : Parsed) → addressOf tag ≡ p → Reads q sequence (onAddress p (readAddress q sequence (length out)))
     go (parsed.Refused k) e = subst Some e (some-number tag)
