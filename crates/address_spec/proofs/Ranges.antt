@@ -146,7 +146,7 @@ can tag x = go (leb (length tag) 255 && ascii tag) (formOf separates tag) (form-
     go true none h q = refused q
     go true (some y) h q = h (cc)
 
--- ---- how large the numbers are; position 0, or a file of at most 1: so the address fields of a request need at most eight bytes
+-- ---- how large the numbers are; position 0, or a file of at most 1: so the address fields of a request need at most seven bytes
 both : (a b : Bool) → (a && b) ≡ true → (a ≡ true) × (b ≡ true)
 both true b e = (refl, e)
 both false b e = absurd (let z : _≡_ {A = ℕ} 0 1 = cc in omega arith)
