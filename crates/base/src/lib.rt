@@ -134,14 +134,29 @@ pub fn mixed(mask: u16, old: u16, value: u16) -> u16
     (old & !mask) | (value & mask)
 }
 
-// The mask of a bit; 0 where a word has no such bit.
-pub fn bit_mask(b: u8) -> u16
+// The mask of a bit, to be held to the manual's word drawings; 0 where a word has no such bit.
+pub fn bit_mask(b: usize) -> u16
     ensures { λ r. ⌜ r ≡ bitMask b ⌝ }
 {
-    if b < 16 {
-        return 1u16 << b;
+    match b {
+        0 => 0x0001,
+        1 => 0x0002,
+        2 => 0x0004,
+        3 => 0x0008,
+        4 => 0x0010,
+        5 => 0x0020,
+        6 => 0x0040,
+        7 => 0x0080,
+        8 => 0x0100,
+        9 => 0x0200,
+        10 => 0x0400,
+        11 => 0x0800,
+        12 => 0x1000,
+        13 => 0x2000,
+        14 => 0x4000,
+        15 => 0x8000,
+        _ => 0,
     }
-    0
 }
 
 pub fn least(a: usize, b: usize) -> usize

@@ -1,12 +1,12 @@
 -- Laws of reading an element, one for each answer.
-use Prim.Native.Nat.{ℕ, suc, _+_, _-_, _*_, _%_, _^_, _≤_, _<_, min}
+use Prim.Native.Nat.{ℕ, _-_, _^_, _≤_, _<_, min}
 use mathlib.Core.Path.{_≡_, refl, ap, sym, subst, _∙_}
 use mathlib.Core.List.{List, [], _∷_, _++_}
 use mathlib.Core.Bool.{Bool, true, false, cond}
-use native.Mathlib.Nat.{mod-le}
 use native.Mathlib.Omega.{arith}
 use borrow.Author.Tests.{lt-ltb, le-ltb}
-use lib.Dec.{ltb, lit<}
+use lib.Bits.{bitAnd, and-mask}
+use lib.Dec.{ltb}
 use lib.IntN.{ℤ}
 use lib.ListN.{length, take, drop, getD, length-take, length-drop}
 use lib.Pow.{pow-pos}
@@ -14,13 +14,12 @@ use lib.Seq.{length-take-le, drop-cons}
 use mir.Syntax.{w16, w32}
 use mir.Val.{Fits, SFits, toZ, ofZ}
 use mir.ValLaws.{toZ-ofZ}
+use Rattle.base.specs.Masks.{bitMask}
 use Rattle.base.specs.Numbers.{number}
 use Rattle.base.specs.Put.{put, Puts}
-use Rattle.base.proofs.Masks.{shifted}
 use Rattle.base.proofs.Put.{put-whole, puts-wrote}
 use Rattle.file_type.specs.declared.FileType.{FileType}
 use Rattle.file_type.specs.Table.{row, bitNames}
-use Rattle.file_type.proofs.FieldNames.{bits-most}
 use Rattle.element_text.specs.Text.{swapPairs}
 use Rattle.element_text.proofs.Swap.{swap-length}
 use Rattle.element_spec.specs.declared.Element.{Element}
@@ -50,24 +49,22 @@ fields-read t n m x y z b bytes f g ex en ey em ez eb =
     rw (toZ-ofZ w16 n f, toZ-ofZ w16 m g, en, em, ex, ey, eb, ez)
 
 -- ---- the named bits
-module _ (t : FileType) (w b : ℕ) (e : b ≡ length (bitNames t)) where
-  pub few-bits : b ≤ 16
-  few-bits = omega (arith, bits-most t)
+module _ (b : ℕ) where
+  module _ (h : b < 16) {m : ℕ} (e : m ≡ bitMask b) where
+    its-mask : m ≡ 2 ^ b
+    its-mask = e ∙ rw (lt-ltb b 16 h)
 
-  by-shift : (1 * 2 ^ (16 - b)) % 2 ^ 32 ≡ 2 ^ (16 - b)
-  by-shift = shifted 32 (16 - b) (omega arith)
+    pub a-bit : 1 ≤ m
+    a-bit = rw its-mask (pow-pos b)
 
-  pub not-zero : 0 < (1 * 2 ^ (16 - b)) % 2 ^ 32
-  not-zero = rw by-shift (pow-pos (16 - b))
+    pub below : m - 1 ≡ 2 ^ b - 1
+    below = ap (λ (n : ℕ). n - 1) its-mask
 
-  pub low-part : (x : ℕ) → w % x ≤ w
-  low-part x = mod-le w x
+  pub whole-word : b ≤ 16 → 16 ≤ b → 0xFFFF ≡ 2 ^ b - 1
+  whole-word h g = let e : b ≡ 16 = omega arith in rw e
 
-  pub low-fits : (x : ℕ) → Fits w16 w → Fits w16 (w % x)
-  low-fits x f = record { fits = omega (arith, f .fits, low-part x) }
-
-  pub bits-read : w - w % ((1 * 2 ^ (16 - b)) % 2 ^ 32) ≡ namedBits t w
-  bits-read = rw by-shift (rw e)
+pub bits-read : (t : FileType) (w b m : ℕ) → b ≡ length (bitNames t) → m ≡ 2 ^ (16 - b) - 1 → w - bitAnd w m ≡ namedBits t w
+bits-read t w b m e g = rw (g, and-mask w (16 - b), e)
 
 -- ---- text
 module _ (s l : List ℕ) where

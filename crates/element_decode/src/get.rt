@@ -1,6 +1,6 @@
 // Values from the bytes of an element.
 ghost use mathlib.Core.Path.{_≡_};
-ghost use Prim.Native.Nat.{_≤_, min};
+ghost use Prim.Native.Nat.{_-_, _^_, _≤_, min};
 ghost use lib.ListN.{length, take, drop};
 ghost use Rattle.base.specs.Numbers.{number};
 ghost use Rattle.element_text.specs.Text.{swapPairs};
@@ -27,13 +27,23 @@ pub fn float(element: &[u8]) -> Element
     Element::Float(base::long_at(element, 0))
 }
 
+// All bits of a word below this one.
+fn bits_below(b: usize) -> u16
+    requires { ⌜ b ≤ 16 ⌝ }
+    ensures { λ r. ⌜ r ≡ 2 ^ b - 1 ⌝ }
+{
+    if b < 16 {
+        return base::bit_mask(b) - 1;
+    }
+    0xFFFF
+}
+
 // Word 0 with the bits that have no name cleared.
 fn named_bits(t: FileType, w: u16) -> u16
     ensures { λ r. ⌜ r ≡ namedBits t w ⌝ }
 {
     let unnamed = 16 - file_type_fields::bits(t);
-    let low = (w as u32) % (1u32 << unnamed);
-    w - (low as u16)
+    w - (w & bits_below(unnamed))
 }
 
 pub fn fields(t: FileType, element: &[u8]) -> Element

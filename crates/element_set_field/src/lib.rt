@@ -40,7 +40,7 @@ fn put_bit(b: u8, clear: bool, element: &mut [u8]) -> Stored
     requires { ⌜ 2 ≤ length (now element) ⌝ }
     ensures { λ r. ⌜ Stores (bitOf b clear (now (element .entry))) (now (element .entry)) r (now (element .exit)) ⌝ }
 {
-    let mask = base::bit_mask(b);
+    let mask = base::bit_mask(b as usize);
     let old = base::word_at(element, 0);
     let word = base::mixed(mask, old, mask_or_zero(mask, clear));
     base::put_number(element, 0, 2, word as u64);

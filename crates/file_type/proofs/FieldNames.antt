@@ -112,6 +112,9 @@ most = byFields (λ (t : FileType). length (fieldNames t) ≤ 10) (λ t e. let z
 pub bits-most : (t : FileType) → length (bitNames t) ≤ 8
 bits-most t = simp length-drop (omega (arith, most t))
 
+pub bits-within : (t : FileType) {b k : ℕ} → b ≡ length (bitNames t) → 8 ≤ k → b ≤ k
+bits-within t e h = omega (arith, bits-most t)
+
 module _ (t : FileType) (i : ℕ) {r : Name} where
   pub no-word : 2 ≤ i → Named [] r → Named (getD (wordNames t) i []) r
   no-word h w =

@@ -5,8 +5,8 @@ use mathlib.Core.Bool.{Bool, true, false, _&&_, cond}
 use mathlib.Core.List.{List, [], _∷_, _++_}
 use native.Mathlib.Nat.{mod-eq-of-lt}
 use native.Mathlib.Omega.{arith}
-use borrow.Author.Tests.{le-leb, lt-leb, le-ltb}
-use lib.Dec.{leb, ltb, eqb}
+use borrow.Author.Tests.{le-leb, lt-leb}
+use lib.Dec.{leb, eqb}
 use lib.ListN.{length, getD, length-append}
 use Rattle.base.specs.Masks.{bitMask}
 use Rattle.base.specs.Numbers.{lowFirst}
@@ -25,9 +25,6 @@ use Rattle.request_spec.specs.Request.{isAscii, bitData, textData, suppl
 use Rattle.request_spec.specs.declared.WriteValue.{WriteValue}
 use Rattle.request_spec.specs.declared.WriteValue.the-variants as value
 use Rattle.request_spec.specs.declared.Size.the-variants as size
-
-pub no-mask : (n : ℕ) → 16 ≤ n → _≡_ {A = ℕ} 0 (bitMask n)
-no-mask n h = rw (le-ltb _ _ h)
 
 pub is-ascii : (x : Address) {code : ℕ} → code ≡ row (x .«file_type») .code → eqb code 0x8E ≡ isAscii x
 is-ascii x e = rw e

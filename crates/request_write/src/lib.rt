@@ -3,7 +3,6 @@ ghost use mathlib.Core.Path.{_≡_};
 ghost use mathlib.Core.Bool.{false, _||_};
 ghost use lib.Dec.{eqb};
 ghost use lib.ListN.{length};
-ghost use Rattle.base.specs.Masks.{bitMask};
 ghost use Rattle.base.specs.Put.{Puts};
 ghost use Rattle.request_spec.specs.SizeAnswers.{dataSizeOf};
 ghost use Rattle.request_spec.specs.Request.{presetOrAccum, bitSuits, textSuits, suits as Request·suits, lastAddress, isAscii, bitData, textData, supplied};
@@ -107,19 +106,10 @@ pub fn size(v: WriteValue, bytes: &[u8], x: Address) -> Size
     Size::Is((n - 2) as u8)
 }
 
-fn mask(n: u16) -> u16
-    ensures { λ r. ⌜ r ≡ bitMask n ⌝ }
-{
-    if n < 16 {
-        return base::bit_mask(n as u8);
-    }
-    0
-}
-
 fn put_bit(out: &mut [u8], at: usize, n: u16, b: bool) -> usize
     ensures { λ r. ⌜ Puts (now (out .entry)) at (bitData n b) r (now (out .exit)) ⌝ }
 {
-    let m = mask(n);
+    let m = base::bit_mask(n as usize);
     let low = (m % 256) as u8;
     let high = (m / 256) as u8;
     if b {

@@ -49,13 +49,18 @@ fn words_and_bits(t: FileType, a: i16, b: i16, w: u16, memory: &mut [u8]) -> usi
 // A digit for each named bit, from bit 15 down.
 fn named_bits(t: FileType, w: u16, memory: &mut [u8], at: usize) -> usize {
     let n = file_type_fields::bits(t);
-    let mut rest = w;
     let mut place = at;
     let mut i = 0;
     while i < n {
-        place = decimal::put_decimal(memory, place, (rest / 32768) as u64);
-        rest = (rest % 32768) * 2;
         i += 1;
+        place = decimal::put_decimal(memory, place, bit(w, 16 - i));
     }
     place
+}
+
+fn bit(w: u16, b: usize) -> u64 {
+    if w & base::bit_mask(b) == 0 {
+        return 0;
+    }
+    1
 }
