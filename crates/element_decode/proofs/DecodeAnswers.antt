@@ -12,7 +12,7 @@ use lib.ListN.{length, take, drop, getD, length-take, length-drop}
 use lib.Pow.{pow-pos}
 use lib.Seq.{length-take-le, drop-cons}
 use mir.Syntax.{w16, w32}
-use mir.Val.{Fits, SFits, toZ, ofZ}
+use mir.Val.{SFits, toZ, ofZ}
 use mir.ValLaws.{toZ-ofZ}
 use Rattle.base.specs.Masks.{bitMask}
 use Rattle.base.specs.Numbers.{number}

@@ -27,7 +27,7 @@ pub fn float(element: &[u8]) -> Element
     Element::Float(base::long_at(element, 0))
 }
 
-// All bits of a word below this one.
+// All bits of a word below this one. A type without named bits asks for 16, which has no mask: the whole word.
 fn bits_below(b: usize) -> u16
     requires { ⌜ b ≤ 16 ⌝ }
     ensures { λ r. ⌜ r ≡ 2 ^ b - 1 ⌝ }
