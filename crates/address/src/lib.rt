@@ -3,22 +3,8 @@ pub use address_spec::Address;
 pub use address_spec::Maybe;
 pub use address_spec::Parsed;
 ghost use mathlib.Core.Path.{_≡_};
-ghost use Rattle.address_spec.specs.Spelling.{ascii, addressOf};
+ghost use Rattle.address_spec.specs.Spelling.{addressOf};
 use address_spec::Found;
-
-// Is each byte below 128?
-fn is_ascii(s: &[u8]) -> bool
-    ensures { λ r. ⌜ r ≡ ascii (now (s .entry)) ⌝ }
-{
-    let mut i = 0;
-    while i < s.len() {
-        if 128 <= s[i] {
-            return false;
-        }
-        i += 1;
-    }
-    true
-}
 
 // The address that a tag spells.
 pub fn parse_tag(tag: &[u8]) -> Parsed
@@ -27,7 +13,7 @@ pub fn parse_tag(tag: &[u8]) -> Parsed
     if 255 < tag.len() {
         return Parsed::Refused(1);
     }
-    if !is_ascii(tag) {
+    if !parser_characters::is_well_formed(tag) {
         return Parsed::Refused(1);
     }
     let Found::Is(a) = address_forms::parse_form(tag) else {

@@ -4,7 +4,8 @@ ghost use mathlib.Core.List.{[], _∷_};
 ghost use mathlib.Core.Option.{some};
 ghost use lib.ListN.{drop};
 ghost use Rattle.file_type.specs.declared.FileType.the-variants.{C, T, L, F, B, N};
-ghost use Rattle.parser_spec.specs.Parts.{ended, firstOf};
+ghost use Rattle.parser_spec.specs.Characters.{character, firstOf};
+ghost use Rattle.parser_spec.specs.Parts.{ended};
 ghost use Rattle.parser.specs.CursorAnswers.{readAt, eatenOf, readWordOf};
 ghost use Rattle.address_spec.specs.ReaderAnswers.{typedOf, slotOf, bitOf, tailOf, foundOf};
 ghost use Rattle.address_spec.specs.Spelling.{present as Spelling·present, fileBefore, optionalBit, bitCount, ignored, optionalPosition, slots, slot as Spelling·slot, stOrA};
@@ -22,30 +23,30 @@ use parser::ReadNumber;
 use parser::ReadWord;
 
 pub fn ct_letter(c: Cur, s: &[u8]) -> Typed
-    ensures { λ r. ⌜ r ≡ typedOf (readAt (c .i) (now (s .entry)) (firstOf (("C", C) ∷ ("T", T) ∷ []))) ⌝ }
+    ensures { λ r. ⌜ r ≡ typedOf (readAt (c .i) (now (s .entry)) (firstOf character (("C", C) ∷ ("T", T) ∷ []))) ⌝ }
 {
-    if let Eaten::At(d) = c.letter(s, b'C') {
+    if let Eaten::At(d) = parser_characters::letter(c, s, b'C') {
         return Typed::Is(FileType::C, d);
     }
-    if let Eaten::At(d) = c.letter(s, b'T') {
+    if let Eaten::At(d) = parser_characters::letter(c, s, b'T') {
         return Typed::Is(FileType::T, d);
     }
     Typed::No
 }
 
 pub fn lfbn_letter(c: Cur, s: &[u8]) -> Typed
-    ensures { λ r. ⌜ r ≡ typedOf (readAt (c .i) (now (s .entry)) (firstOf (("L", L) ∷ ("F", F) ∷ ("B", B) ∷ ("N", N) ∷ []))) ⌝ }
+    ensures { λ r. ⌜ r ≡ typedOf (readAt (c .i) (now (s .entry)) (firstOf character (("L", L) ∷ ("F", F) ∷ ("B", B) ∷ ("N", N) ∷ []))) ⌝ }
 {
-    if let Eaten::At(d) = c.letter(s, b'L') {
+    if let Eaten::At(d) = parser_characters::letter(c, s, b'L') {
         return Typed::Is(FileType::L, d);
     }
-    if let Eaten::At(d) = c.letter(s, b'F') {
+    if let Eaten::At(d) = parser_characters::letter(c, s, b'F') {
         return Typed::Is(FileType::F, d);
     }
-    if let Eaten::At(d) = c.letter(s, b'B') {
+    if let Eaten::At(d) = parser_characters::letter(c, s, b'B') {
         return Typed::Is(FileType::B, d);
     }
-    if let Eaten::At(d) = c.letter(s, b'N') {
+    if let Eaten::At(d) = parser_characters::letter(c, s, b'N') {
         return Typed::Is(FileType::N, d);
     }
     Typed::No
@@ -53,12 +54,12 @@ pub fn lfbn_letter(c: Cur, s: &[u8]) -> Typed
 
 // The type and file of I and O.
 fn io_letter(c: Cur, s: &[u8]) -> Slot
-    ensures { λ r. ⌜ r ≡ slotOf (readAt (c .i) (now (s .entry)) (firstOf slots)) ⌝ }
+    ensures { λ r. ⌜ r ≡ slotOf (readAt (c .i) (now (s .entry)) (firstOf character slots)) ⌝ }
 {
-    if let Eaten::At(d) = c.letter(s, b'I') {
+    if let Eaten::At(d) = parser_characters::letter(c, s, b'I') {
         return Slot::Is(FileType::I, 1, d);
     }
-    if let Eaten::At(d) = c.letter(s, b'O') {
+    if let Eaten::At(d) = parser_characters::letter(c, s, b'O') {
         return Slot::Is(FileType::O, 0, d);
     }
     Slot::No
@@ -66,18 +67,18 @@ fn io_letter(c: Cur, s: &[u8]) -> Slot
 
 // The letters ST, or A.
 pub fn st_or_a(c: Cur, s: &[u8], st: bool) -> Typed
-    ensures { λ r. ⌜ r ≡ typedOf (readAt (c .i) (now (s .entry)) (stOrA st)) ⌝ }
+    ensures { λ r. ⌜ r ≡ typedOf (readAt (c .i) (now (s .entry)) (stOrA character st)) ⌝ }
 {
     if !st {
-        let Eaten::At(d) = c.letter(s, b'A') else {
+        let Eaten::At(d) = parser_characters::letter(c, s, b'A') else {
             return Typed::No;
         };
         return Typed::Is(FileType::A, d);
     }
-    let Eaten::At(d) = c.letter(s, b'S') else {
+    let Eaten::At(d) = parser_characters::letter(c, s, b'S') else {
         return Typed::No;
     };
-    let Eaten::At(e) = d.letter(s, b'T') else {
+    let Eaten::At(e) = parser_characters::letter(d, s, b'T') else {
         return Typed::No;
     };
     Typed::Is(FileType::ST, e)
@@ -138,7 +139,7 @@ fn ignore_number(c: Cur, s: &[u8]) -> Eaten
 
 // I or O, an optional number, `:`.
 pub fn slot(c: Cur, s: &[u8]) -> Slot
-    ensures { λ r. ⌜ r ≡ slotOf (readAt (c .i) (now (s .entry)) Spelling·slot) ⌝ }
+    ensures { λ r. ⌜ r ≡ slotOf (readAt (c .i) (now (s .entry)) (Spelling·slot character)) ⌝ }
 {
     let Slot::Is(t, f, d) = io_letter(c, s) else {
         return Slot::No;

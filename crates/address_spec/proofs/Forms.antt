@@ -1,19 +1,18 @@
 -- Laws of the forms: the whole tag, the forms in turn, questions 1 and 2.
-use Prim.Native.Nat.{ℕ, _+_, _≤_, _<_}
+use Prim.Native.Nat.{ℕ, _≤_, _<_}
 use mathlib.Core.Path.{_≡_, refl, ap, sym, _∙_}
 use mathlib.Core.List.{List, []}
 use mathlib.Core.Option.{Option, none, some}
 use mathlib.Core.Bool.{Bool, true, false, not, _&&_, cond}
 use native.Mathlib.Omega.{arith}
-use borrow.Author.Tests.{le-leb, lt-leb, lt-ltb, le-ltb, not-true, not-false}
-use lib.Dec.{ltb}
-use lib.ListN.{length, drop, getD, drop-of-length-le}
-use Rattle.base.proofs.Parts.{drop-next}
+use borrow.Author.Tests.{le-leb, lt-leb, not-true, not-false}
+use lib.ListN.{length, drop}
 use Rattle.file_type.specs.declared.FileType.{FileType}
 use Rattle.parser_spec.specs.DecimalNumbers.{Run, digitRun}
 use Rattle.parser_spec.specs.Parts.{Part, then, ended, whole, atEnd, digits, beforeByte}
+use Rattle.parser_spec.specs.Characters.{character, wellFormed}
 use Rattle.address_spec.specs.ReaderAnswers.{foundOf}
-use Rattle.address_spec.specs.Spelling.{address, keptOf, ignored, stOrA, orTry, formOf, separates, ascii, addressOf}
+use Rattle.address_spec.specs.Spelling.{address, keptOf, ignored, stOrA, orTry, formOf, separates, addressOf}
 use Rattle.address_spec.specs.declared.Address.{Address}
 use Rattle.address_spec.specs.declared.Maybe.{Maybe}
 use Rattle.address_spec.specs.declared.Maybe.the-variants.{Missing, Is}
@@ -76,10 +75,10 @@ module _ (s : List ℕ) (i n : ℕ) (run : Run s i n) where
       go d g = rw (borrow.Author.Tests.ne-eqb d 0 g) h
 
 module _ (st : Bool) (s : List ℕ) (y : Option (FileType × List ℕ)) where
-  pub only-a : not st ≡ true → stOrA false s ≡ y → stOrA st s ≡ y
+  pub only-a : not st ≡ true → stOrA character false s ≡ y → stOrA character st s ≡ y
   only-a e h = rw (not-true st e) h
 
-  pub only-st : not st ≡ false → stOrA true s ≡ y → stOrA st s ≡ y
+  pub only-st : not st ≡ false → stOrA character true s ≡ y → stOrA character st s ≡ y
   only-st e h = rw (not-false st e) h
 
 -- ---- the forms in turn
@@ -100,50 +99,34 @@ module _ (x y : Option Address) (r : Found) (e : r ≡ foundOf x) where
       go none e g h = h
       go (some z) e g h = absurd (let w : _≡_ {A = ℕ} 0 1 = cc in omega arith)
 
--- ---- each byte below 128
-module _ (s : List ℕ) (i : ℕ) (inv : ascii (drop i s) ≡ ascii s) where
-  pub ascii-end : length s ≤ i → true ≡ ascii s
-  unfolding ascii
-  ascii-end h = rw (drop-of-length-le s h) at inv
-
-  ascii-at : i < length s → (ltb (getD s i 0) 128 && ascii (drop (i + 1) s)) ≡ ascii s
-  unfolding ascii
-  ascii-at h = rw (drop-next s i h) at inv
-
-  pub ascii-stop : i < length s → 128 ≤ getD s i 0 → false ≡ ascii s
-  ascii-stop h l = rw (le-ltb _ _ l) at (ascii-at h)
-
-  pub ascii-more : i < length s → getD s i 0 < 128 → ascii (drop (i + 1) s) ≡ ascii s
-  ascii-more h l = rw (lt-ltb _ _ l) at (ascii-at h)
-
 -- ---- questions 1 and 2
 module _ (s : List ℕ) where
   pub tag-long : 255 < length s → parsed.Refused 1 ≡ addressOf s
   unfolding addressOf
   tag-long h = rw (lt-leb _ _ h)
 
-  module _ (h : length s ≤ 255) (b : Bool) (e : b ≡ ascii s) where
-    pub tag-high : not b ≡ true → parsed.Refused 1 ≡ addressOf s
+  module _ (h : length s ≤ 255) (b : Bool) (e : b ≡ wellFormed s) where
+    pub tag-ill : not b ≡ true → parsed.Refused 1 ≡ addressOf s
     unfolding addressOf
-    tag-high g = rw (le-leb _ _ h, ← e, not-true b g)
+    tag-ill g = rw (le-leb _ _ h, ← e, not-true b g)
 
-    module _ (g : not b ≡ false) (r : Found) (f : r ≡ foundOf (formOf separates s)) where
-      by-form : (x : Option Address) → formOf separates s ≡ x → addressOf s ≡ Rattle.address_spec.specs.Spelling.accepted x
+    module _ (g : not b ≡ false) (r : Found) (f : r ≡ foundOf (formOf character separates s)) where
+      by-form : (x : Option Address) → formOf character separates s ≡ x → addressOf s ≡ Rattle.address_spec.specs.Spelling.accepted x
       unfolding addressOf
       by-form x q = rw (le-leb _ _ h, ← e, not-false b g, q)
 
       pub tag-no : r ≡ found.No → parsed.Refused 2 ≡ addressOf s
       unfolding foundOf
-      tag-no n = go (formOf separates s) refl
+      tag-no n = go (formOf character separates s) refl
         where
-          go : (x : Option Address) → formOf separates s ≡ x → parsed.Refused 2 ≡ addressOf s
+          go : (x : Option Address) → formOf character separates s ≡ x → parsed.Refused 2 ≡ addressOf s
           go none q = sym (by-form none q)
           go (some z) q = absurd (let y : found.No ≡ foundOf (some z) = sym n ∙ f ∙ ap foundOf q in let w : _≡_ {A = ℕ} 0 1 = cc in omega arith)
 
       pub tag-is : (a : Address) → r ≡ found.Is a → parsed.Is a ≡ addressOf s
       unfolding foundOf
-      tag-is a n = go (formOf separates s) refl
+      tag-is a n = go (formOf character separates s) refl
         where
-          go : (x : Option Address) → formOf separates s ≡ x → parsed.Is a ≡ addressOf s
+          go : (x : Option Address) → formOf character separates s ≡ x → parsed.Is a ≡ addressOf s
           go none q = absurd (let y : found.Is a ≡ foundOf none = sym n ∙ f ∙ ap foundOf q in let w : _≡_ {A = ℕ} 0 1 = cc in omega arith)
           go (some z) q = let y : found.Is a ≡ foundOf (some z) = sym n ∙ f ∙ ap foundOf q in let w : a ≡ z = cc in ap parsed.Is w ∙ sym (by-form (some z) q)

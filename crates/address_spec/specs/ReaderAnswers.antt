@@ -2,10 +2,7 @@
 use Prim.Native.Nat.{ℕ}
 use mathlib.Core.List.{List, []}
 use mathlib.Core.Option.{Option, none, some}
-use lib.ListN.{getD}
-use Rattle.base.specs.Chars.{bytes}
 use Rattle.file_type.specs.declared.FileType.{FileType}
-use Rattle.address_spec.specs.Spelling.{ctNames}
 use Rattle.address_spec.specs.declared.Maybe.{Maybe}
 use Rattle.address_spec.specs.declared.Maybe.the-variants as maybe
 use Rattle.address_spec.specs.declared.Address.{Address}
@@ -50,10 +47,3 @@ namedOf (named.Got e n) = some ((e, n), [])
 unfoldable pub foundOf : Option Address → Found
 foundOf none = found.No
 foundOf (some x) = found.Is x
-
--- the names of C and T by their places in the table, and what they stand for
-abbrev pub ctName : ℕ → List ℕ
-ctName i = bytes (getD ctNames i ("", 0) .0)
-
-abbrev pub ctValue : ℕ → ℕ
-ctValue i = getD ctNames i ("", 0) .1

@@ -1,7 +1,9 @@
--- The address spelling (document 01, "Address spelling"), form by form, and questions 1 and 2.
+-- The address spelling (document 01, "Address spelling"; document 02, A2), form by form, and questions 1 and 2. `char` reads a character: by UTF-8, or, as
+-- document 01 has it, a byte.
 use Prim.Native.Nat.{ℕ, zero, suc, min, _/_, _%_}
 use Prim.Native.Char.{Char, code}
 use Prim.Native.String.{String}
+use mathlib.Core.Path.{_≡_}
 use mathlib.Core.List.{List, [], _∷_}
 use mathlib.Core.Option.{Option, none, some}
 use mathlib.Core.Bool.{Bool, true, false, _&&_, not, cond}
@@ -11,7 +13,8 @@ use Rattle.base.specs.Chars.{bytes, spelled}
 use Rattle.file_type.specs.declared.FileType.{FileType}
 use Rattle.file_type.specs.declared.FileType.the-variants.{O, I, S, B, T, C, N, F, ST, A, L}
 use Rattle.parser_spec.specs.DecimalNumbers.{digitRun, numberOf}
-use Rattle.parser_spec.specs.Parts.{Part, then, _>>=_, _>>_, give, here, orElse, whole, oneByte, byte, sign, letter, digits, digitsIn, after, firstOf, count, countOf, before}
+use Rattle.parser_spec.specs.Parts.{Part, then, _>>=_, _>>_, give, here, orElse, whole, byte, sign, digits, digitsIn, after, count, countOf, before}
+use Rattle.parser_spec.specs.Characters.{character, anyByte, wellFormed, one, letter, firstOf}
 use Rattle.address_spec.specs.declared.Maybe.{Maybe}
 use Rattle.address_spec.specs.declared.Maybe.the-variants.{Missing, Is}
 use Rattle.address_spec.specs.declared.Address.{Address}
@@ -73,14 +76,14 @@ unfoldable pub nameIn : List (String × ℕ) → Part ℕ
 nameIn [] s = none
 nameIn (x ∷ xs) s = cond (spelled true (bytes (x .0)) s) (some (x .1, [])) (nameIn xs s)
 
--- "one byte that isn't a newline"
+-- A2: "The separator of a timer or counter address is one character that isn't a newline."; document 01: "one byte that isn't a newline"
 abbrev pub separates : ℕ → Bool
-separates b = not (eqb b 10)
+separates x = not (eqb x 10)
 
-module _ (separator : ℕ → Bool) where
+module _ (char : Part ℕ) (separator : ℕ → Bool) where
   -- an element of k digits, a separator, a name
   unfoldable pub cut : ℕ → Part (ℕ × ℕ)
-  cut k s = then (oneByte separator (drop k s)) (λ _ r. then (nameIn ctNames r) (λ n q. some ((numberOf (take k s), n), q)))
+  cut k s = then (one char separator (drop k s)) (λ _ r. then (nameIn ctNames r) (λ n q. some ((numberOf (take k s), n), q)))
 
   -- the same with k digits or fewer, "longest cut first"
   unfoldable pub cuts : ℕ → Part (ℕ × ℕ)
@@ -93,22 +96,13 @@ module _ (separator : ℕ → Bool) where
   -- "C, T: file (1 to 3 digits), `:`, element (1 to 3 digits, longest cut first), one byte that isn't a newline, then exactly one name, no count"
   unfoldable pub ct : List ℕ → Option Address
   ct tag = whole (do
-    t ← firstOf (("C", C) ∷ ("T", T) ∷ [])
+    t ← firstOf char (("C", C) ∷ ("T", T) ∷ [])
     f ← fileThen ":"
     x ← elementName
     here (leb (x .0) 255)
     give (address t f (x .0) Missing (Is (x .1)) true 1 (length tag))) tag
 
 -- ---- the other forms
--- "L, F, B, N: file, `:`, element (3 digits at most), optional `/`bit (2 at most), count."
-unfoldable pub lfbn : List ℕ → Option Address
-lfbn tag = whole (do
-  t ← firstOf (("L", L) ∷ ("F", F) ∷ ("B", B) ∷ ("N", N) ∷ [])
-  f ← fileThen ":"
-  e ← element
-  x ← bitCount
-  give (address t f e Missing (x .0) (present (x .0)) (x .1) (before "{" tag))) tag
-
 -- "optional number of 1 to 3 digits, ignored"
 unfoldable pub ignored : Part (Unit {0})
 ignored s = cond (eqb (digitRun s) 0) (some (tt, s)) (then (digits 3 s) (λ _ r. some (tt, r)))
@@ -121,74 +115,92 @@ optionalPosition = after "." (digitsIn 3 0 999) 0
 abbrev pub slots : List (Char × (FileType × ℕ))
 slots = ("I", (I, 1)) ∷ ("O", (O, 0)) ∷ []
 
-unfoldable pub slot : Part (FileType × ℕ)
-slot = do t ← firstOf slots; ignored; sign ":"; give t
-
--- "I, O: optional number of 1 to 3 digits, ignored; `:`, element, optional `.`position (0 to 999), optional `/`bit, count."; "sub-element is missing without a bit or name, but 0 on I and O"
-unfoldable pub io : List ℕ → Option Address
-io tag = whole (do
-  t ← slot
-  e ← element
-  p ← optionalPosition
-  x ← bitCount
-  give (address (t .0) (t .1) e (Is p) (Is (orZero (x .0))) (present (x .0)) (x .1) (before "{" tag))) tag
-
--- "ST, A: file, `:`, element (4 digits at most), count."; "ST takes only {1} or {2}"
-unfoldable pub stOrA : Bool → Part FileType
-stOrA true = do letter "S"; letter "T"; give ST
-stOrA false = do letter "A"; give A
-
-unfoldable pub sta : Bool → List ℕ → Option Address
-sta st tag = whole (do
-  t ← stOrA st
-  f ← fileThen ":"
-  e ← digitsIn 4 0 255
-  n ← countOf st
-  give (address t f e Missing Missing false n (before "{" tag))) tag
-
 -- "all of it for .. S with a bit, else what stands before `{`"
 abbrev pub keptOf : Maybe → List ℕ → ℕ
 keptOf Missing tag = before "{" tag
 keptOf (Is n) tag = length tag
 
--- "S: `:`, element, optional `/`bit, count. File 2."
-unfoldable pub status : List ℕ → Option Address
-status tag = whole (do
-  letter "S"
-  sign ":"
-  e ← element
-  x ← bitCount
-  give (address S 2 e Missing (x .0) (present (x .0)) (x .1) (keptOf (x .0) tag))) tag
-
--- "B: file, `/`, bit 0 to 4095 (4 digits at most), count; element is bit / 16, bit is the remainder."
-unfoldable pub bits : List ℕ → Option Address
-bits tag = whole (do
-  letter "B"
-  f ← fileThen "/"
-  x ← digitsIn 4 0 4095
-  n ← count
-  give (address B f (x / 16) Missing (Is (x % 16)) true n (before "{" tag))) tag
-
--- ---- the forms in the Rust's order
 unfoldable pub orTry : Option Address → Option Address → Option Address
 orTry none q = q
 orTry (some x) q = some x
 
-unfoldable pub lastForms : List ℕ → Option Address
-lastForms tag = orTry (sta true tag) (orTry (sta false tag) (orTry (status tag) (bits tag)))
+module _ (char : Part ℕ) where
+  -- "L, F, B, N: file, `:`, element (3 digits at most), optional `/`bit (2 at most), count."
+  unfoldable pub lfbn : List ℕ → Option Address
+  lfbn tag = whole (do
+    t ← firstOf char (("L", L) ∷ ("F", F) ∷ ("B", B) ∷ ("N", N) ∷ [])
+    f ← fileThen ":"
+    e ← element
+    x ← bitCount
+    give (address t f e Missing (x .0) (present (x .0)) (x .1) (before "{" tag))) tag
 
-unfoldable pub formOf : (ℕ → Bool) → List ℕ → Option Address
-formOf separator tag = orTry (ct separator tag) (orTry (lfbn tag) (orTry (io tag) (lastForms tag)))
+  unfoldable pub slot : Part (FileType × ℕ)
+  slot = do t ← firstOf char slots; ignored; sign ":"; give t
+
+  -- "I, O: optional number of 1 to 3 digits, ignored; `:`, element, optional `.`position (0 to 999), optional `/`bit, count."; "sub-element is missing without a bit or name, but 0 on I and O"
+  unfoldable pub io : List ℕ → Option Address
+  io tag = whole (do
+    t ← slot
+    e ← element
+    p ← optionalPosition
+    x ← bitCount
+    give (address (t .0) (t .1) e (Is p) (Is (orZero (x .0))) (present (x .0)) (x .1) (before "{" tag))) tag
+
+  -- "ST, A: file, `:`, element (4 digits at most), count."; "ST takes only {1} or {2}"
+  unfoldable pub stOrA : Bool → Part FileType
+  stOrA true = do letter char "S"; letter char "T"; give ST
+  stOrA false = do letter char "A"; give A
+
+  unfoldable pub sta : Bool → List ℕ → Option Address
+  sta st tag = whole (do
+    t ← stOrA st
+    f ← fileThen ":"
+    e ← digitsIn 4 0 255
+    n ← countOf st
+    give (address t f e Missing Missing false n (before "{" tag))) tag
+
+  -- "S: `:`, element, optional `/`bit, count. File 2."
+  unfoldable pub status : List ℕ → Option Address
+  status tag = whole (do
+    letter char "S"
+    sign ":"
+    e ← element
+    x ← bitCount
+    give (address S 2 e Missing (x .0) (present (x .0)) (x .1) (keptOf (x .0) tag))) tag
+
+  -- "B: file, `/`, bit 0 to 4095 (4 digits at most), count; element is bit / 16, bit is the remainder."
+  unfoldable pub bits : List ℕ → Option Address
+  bits tag = whole (do
+    letter char "B"
+    f ← fileThen "/"
+    x ← digitsIn 4 0 4095
+    n ← count
+    give (address B f (x / 16) Missing (Is (x % 16)) true n (before "{" tag))) tag
+
+  -- the forms in the Rust's order
+  unfoldable pub lastForms : List ℕ → Option Address
+  lastForms tag = orTry (sta true tag) (orTry (sta false tag) (orTry (status tag) (bits tag)))
+
+  unfoldable pub formOf : (ℕ → Bool) → List ℕ → Option Address
+  formOf separator tag = orTry (ct char separator tag) (orTry (lfbn tag) (orTry (io tag) (lastForms tag)))
 
 -- ---- questions 1 and 2
-unfoldable pub ascii : List ℕ → Bool
-ascii [] = true
-ascii (x ∷ r) = ltb x 128 && ascii r
-
 abbrev pub accepted : Option Address → Parsed
 accepted none = parsed.Refused 2
 accepted (some x) = parsed.Is x
 
--- "1. Is the tag at most 255 bytes, each below 128? no: 1. 2. Does `parse_tag` accept it? no: 2"
+-- A2: "1 now means longer than 255 bytes or not well-formed"; document 01: "2. Does `parse_tag` accept it? no: 2"
 unfoldable pub addressOf : List ℕ → Parsed
-addressOf tag = cond (leb (length tag) 255 && ascii tag) (accepted (formOf separates tag)) (parsed.Refused 1)
+addressOf tag = cond (leb (length tag) 255 && wellFormed tag) (accepted (formOf character separates tag)) (parsed.Refused 1)
+
+-- document 01's own: "1. Is the tag at most 255 bytes, each below 128? no: 1"
+unfoldable pub ascii : List ℕ → Bool
+ascii [] = true
+ascii (x ∷ r) = ltb x 128 && ascii r
+
+unfoldable pub baseAddressOf : List ℕ → Parsed
+baseAddressOf tag = cond (leb (length tag) 255 && ascii tag) (accepted (formOf anyByte separates tag)) (parsed.Refused 1)
+
+-- for a tag of bytes below 128 every answer is document 01's
+abbrev pub AsBefore : Type 0
+AsBefore = (tag : List ℕ) → ascii tag ≡ true → addressOf tag ≡ baseAddressOf tag

@@ -1,85 +1,115 @@
 // Timers and counters: the names of their sub-elements, and the element in front of a name.
 ghost use mathlib.Core.Path.{_≡_};
-ghost use mathlib.Core.Bool.{true};
-ghost use Prim.Native.Nat.{_+_, _≤_, _<_};
+ghost use mathlib.Core.List.{[], _∷_};
+ghost use Prim.Native.Nat.{_+_, _≤_};
 ghost use lib.ListN.{length, drop};
-ghost use Rattle.base.specs.Chars.{spelled};
-ghost use Rattle.address_spec.specs.ReaderAnswers.{maybeOf, namedOf, ctName, ctValue};
+ghost use Rattle.parser_spec.specs.Characters.{character, one};
+ghost use Rattle.parser.specs.CursorAnswers.{readAt, eatenOf};
+ghost use Rattle.address_spec.specs.ReaderAnswers.{maybeOf, namedOf};
 ghost use Rattle.address_spec.specs.Spelling.{ctNames, nameIn, separates, cut, elementName};
 use address_spec::Maybe;
 use address_spec::Named;
 use parser::Cur;
+use parser::Eaten;
+use parser_characters::ReadCharacter;
 
-// The names, in three bytes each, and their numbers.
-const CT_NAMES: [[u8; 3]; 10] = [
-    [b'P', b'R', b'E'],
-    [b'A', b'C', b'C'],
-    [b'E', b'N', 0],
-    [b'T', b'T', 0],
-    [b'D', b'N', 0],
-    [b'C', b'U', 0],
-    [b'C', b'D', 0],
-    [b'O', b'V', 0],
-    [b'U', b'N', 0],
-    [b'U', b'A', 0],
-];
-
-const CT_VALUES: [u16; 10] = [1, 2, 15, 14, 13, 15, 14, 12, 11, 10];
-
-// Does `t` spell name i?
-fn is_ct_name(t: &[u8], i: usize) -> bool
-    requires { ⌜ i < 10 ⌝ }
-    ensures { λ r. ⌜ r ≡ spelled true (ctName i) (now (t .entry)) ⌝ }
+// A name of two letters, by both at once.
+fn short_name(a: u8, b: u8) -> Maybe
+    ensures { λ r. ⌜ nameIn ctNames (a ∷ b ∷ []) ≡ maybeOf r ⌝ }
 {
-    let name = CT_NAMES[i];
-    if i < 2 {
-        return base::spells(t, &name, true);
+    let x = base::letter(a, true);
+    let y = base::letter(b, true);
+    let both = (x as u16) * 256 + (y as u16);
+    match both {
+        0x454E => Maybe::Is(15), // EN
+        0x5454 => Maybe::Is(14), // TT
+        0x444E => Maybe::Is(13), // DN
+        0x4355 => Maybe::Is(15), // CU
+        0x4344 => Maybe::Is(14), // CD
+        0x4F56 => Maybe::Is(12), // OV
+        0x554E => Maybe::Is(11), // UN
+        0x5541 => Maybe::Is(10), // UA
+        _ => Maybe::Missing,
     }
-    base::spells(t, &name[..2], true)
 }
 
-fn ct_value(i: usize) -> u16
-    requires { ⌜ i < 10 ⌝ }
-    ensures { λ r. ⌜ r ≡ ctValue i ⌝ }
+// A name of three.
+fn long_name(a: u8, b: u8, c: u8) -> Maybe
+    ensures { λ r. ⌜ nameIn ctNames (a ∷ b ∷ c ∷ []) ≡ maybeOf r ⌝ }
 {
-    CT_VALUES[i]
+    let x = base::letter(a, true);
+    let y = base::letter(b, true);
+    let z = base::letter(c, true);
+    let all = ((x as u32) * 256 + (y as u32)) * 256 + (z as u32);
+    match all {
+        0x505245 => Maybe::Is(1), // PRE
+        0x414343 => Maybe::Is(2), // ACC
+        _ => Maybe::Missing,
+    }
 }
 
 // The number of the name that `t` spells.
 fn ct_bit(t: &[u8]) -> Maybe
     ensures { λ r. ⌜ nameIn ctNames (now (t .entry)) ≡ maybeOf r ⌝ }
 {
-    let mut i = 0;
-    while i < 10 {
-        if is_ct_name(t, i) {
-            return Maybe::Is(ct_value(i));
-        }
-        i += 1;
+    if t.len() == 2 {
+        return short_name(t[0], t[1]);
+    }
+    if t.len() == 3 {
+        return long_name(t[0], t[1], t[2]);
     }
     Maybe::Missing
 }
 
-// May this byte stand before a name?
-fn is_separator(b: u8) -> bool
-    ensures { λ r. ⌜ r ≡ separates b ⌝ }
+// May this character stand before a name?
+fn is_separator(x: u32) -> bool
+    ensures { λ r. ⌜ r ≡ separates x ⌝ }
 {
-    b != 10
+    x != 10
+}
+
+// A separator, of any character.
+fn separator_of(c: Cur, s: &[u8]) -> Eaten
+    ensures { λ r. ⌜ r ≡ eatenOf (readAt (c .i) (now (s .entry)) (one character separates)) ⌝ }
+{
+    let ReadCharacter::Got(x, d) = parser_characters::character(c, s) else {
+        return Eaten::No;
+    };
+    if !is_separator(x) {
+        return Eaten::No;
+    }
+    Eaten::At(d)
+}
+
+// The same. A byte below 128 is a character by itself, and needs no decoding.
+fn separator(c: Cur, s: &[u8]) -> Eaten
+    ensures { λ r. ⌜ r ≡ eatenOf (readAt (c .i) (now (s .entry)) (one character separates)) ⌝ }
+{
+    let i = c.i;
+    if s.len() <= i {
+        return Eaten::No;
+    }
+    let b = s[i];
+    if 128 <= b {
+        return separator_of(c, s);
+    }
+    if !is_separator(b as u32) {
+        return Eaten::No;
+    }
+    Eaten::At(Cur { i: i + 1 })
 }
 
 // An element of k digits, a separator, a name.
 fn cut_at(c: Cur, s: &[u8], k: usize) -> Named
     requires { ⌜ c .i + k ≤ length (now s) ⌝ }
-    ensures { λ r. ⌜ cut separates k (drop (c .i) (now (s .entry))) ≡ namedOf r ⌝ }
+    ensures { λ r. ⌜ cut character separates k (drop (c .i) (now (s .entry))) ≡ namedOf r ⌝ }
 {
     let i = c.i;
     let e = i + k;
-    if s.len() <= e {
+    let Eaten::At(d) = separator(Cur { i: e }, s) else {
         return Named::No;
-    }
-    if !is_separator(s[e]) {
-        return Named::No;
-    }
-    let f = e + 1;
+    };
+    let f = d.i;
     let Maybe::Is(n) = ct_bit(&s[f..]) else {
         return Named::No;
     };
@@ -88,7 +118,7 @@ fn cut_at(c: Cur, s: &[u8], k: usize) -> Named
 
 // The same with three digits or fewer, longest cut first.
 pub fn element_name(c: Cur, s: &[u8]) -> Named
-    ensures { λ r. ⌜ elementName separates (drop (c .i) (now (s .entry))) ≡ namedOf r ⌝ }
+    ensures { λ r. ⌜ elementName character separates (drop (c .i) (now (s .entry))) ≡ namedOf r ⌝ }
 {
     let i = c.i;
     let run = parser::digit_run(s, i);

@@ -25,12 +25,19 @@ drop-replicate zero n a = ap (λ (k : ℕ). replicate k a) (sym (sub-zero n))
 drop-replicate (suc i) zero a = let e : zero - suc i ≡ 0 = omega arith in rw e
 drop-replicate (suc i) (suc n) a = let e : suc n - suc i ≡ n - i = omega arith in rw e (drop-replicate i n a)
 
--- a list of two, and of four
+-- a list of two, of three, and of four
 pub two-of : (s : List ℕ) → length s ≡ 2 → s ≡ getD s 0 0 ∷ getD s 1 0 ∷ []
 two-of [] e = absurd (omega arith)
 two-of (a ∷ []) e = absurd (omega arith)
 two-of (a ∷ b ∷ []) e = refl
 two-of (a ∷ b ∷ c ∷ s) e = absurd (omega arith)
+
+pub three-of : (s : List ℕ) → length s ≡ 3 → s ≡ getD s 0 0 ∷ getD s 1 0 ∷ getD s 2 0 ∷ []
+three-of [] e = absurd (omega arith)
+three-of (a ∷ []) e = absurd (omega arith)
+three-of (a ∷ b ∷ []) e = absurd (omega arith)
+three-of (a ∷ b ∷ c ∷ []) e = refl
+three-of (a ∷ b ∷ c ∷ d ∷ s) e = absurd (omega arith)
 
 pub four-of : (s : List ℕ) → length s ≡ 4 → s ≡ getD s 0 0 ∷ getD s 1 0 ∷ getD s 2 0 ∷ getD s 3 0 ∷ []
 four-of [] e = absurd (omega arith)

@@ -11,13 +11,14 @@ use borrow.Author.Tests.{le-leb, lt-leb, lt-ltb, le-ltb, eq-eqb, ne-eqb, not-tru
 use lib.Dec.{leb}
 use lib.ListN.{length, take, drop, getD, drop-of-length-le, length-drop}
 use lib.Seq.{drop-drop}
-use Rattle.base.specs.Chars.{upper}
 use Rattle.base.proofs.Parts.{drop-next}
 use Rattle.parser_spec.specs.DecimalNumbers.{digitRun, Run, numberOf}
-use Rattle.parser_spec.specs.Parts.{Part, then, atEnd, here, oneByte, byte, letterByte, letter, numeral, digits, digitsIn, afterByte, firstOf, countNumber}
+use Rattle.parser_spec.specs.Parts.{Part, then, atEnd, here, oneByte, byte, numeral, digits, digitsIn, afterByte, countNumber}
+use Rattle.parser_spec.specs.Characters.{character, letter, firstOf}
 use Rattle.parser_spec.proofs.Held.{nothing, that, no-some}
-use Rattle.parser_spec.proofs.Behind.{Leaves, byte-leaves, letter-leaves, numeral-leaves, digits-leaves, in-leaves, first-leaves, number-leaves, count-leaves}
-use Rattle.parser_spec.proofs.Written.{step, stop, after-read, after-absent, first-read, first-past}
+use Rattle.parser_spec.proofs.Behind.{Leaves, byte-leaves, numeral-leaves, digits-leaves, in-leaves, number-leaves, count-leaves}
+use Rattle.parser_spec.proofs.Characters.{letter-leaves, first-leaves, first-read, first-past}
+use Rattle.parser_spec.proofs.Written.{step, stop, after-read, after-absent}
 use Rattle.parser.specs.CursorAnswers.{endFrom, placed, eatenOf, readNumberOf, readWordOf}
 use Rattle.parser.specs.declared.Cur.{Cur}
 use Rattle.parser.specs.declared.Eaten.{Eaten}
@@ -73,7 +74,7 @@ module _ {A : Type 0} (s : List ℕ) (i : ℕ) where
   unfolding placed
   placed-by x e = rw e
 
-  placed-on : (j : ℕ) (x : Option (A × List ℕ)) → Onward s i j → placed j s x ≡ placed i s x
+  pub placed-on : (j : ℕ) (x : Option (A × List ℕ)) → Onward s i j → placed j s x ≡ placed i s x
   unfolding placed
   placed-on j none o = refl
   placed-on j (some p) o = rw (o .end)
@@ -128,7 +129,7 @@ module _ (s : List ℕ) (i : ℕ) (x : Option (Unit {0} × List ℕ)) (r : Eaten
   none-eaten : r ≡ place.No → x ≡ none
   none-eaten g = gave-none eatenOf eatenAt eaten-told s i x r e (ap eatenAt g)
 
-  some-eaten : (c : Cur) → r ≡ place.At c → Leaves (drop i s) x → Reads s i x tt (c .i)
+  pub some-eaten : (c : Cur) → r ≡ place.At c → Leaves (drop i s) x → Reads s i x tt (c .i)
   some-eaten c g l = gave-some eatenOf eatenAt eaten-told s i x r e tt (c .i) (ap eatenAt g) l
 
 abbrev numberAt : ReadNumber → Option (ℕ × ℕ)
@@ -160,7 +161,7 @@ module _ (s : List ℕ) (i : ℕ) (x : Option (ℕ × List ℕ)) (r : ReadWord) 
   none-word : r ≡ word.No → x ≡ none
   none-word g = gave-none readWordOf wordAt word-told s i x r e (ap wordAt g)
 
-  some-word : (n : ℕ) (c : Cur) → r ≡ word.Got n c → Leaves (drop i s) x → Reads s i x n (c .i)
+  pub some-word : (n : ℕ) (c : Cur) → r ≡ word.Got n c → Leaves (drop i s) x → Reads s i x n (c .i)
   some-word n c g l = gave-some readWordOf wordAt word-told s i x r e n (c .i) (ap wordAt g) l
 
 -- ---- one byte
@@ -193,18 +194,6 @@ module _ (s : List ℕ) (i v : ℕ) where
   pub byte-not : i < length s → (getD s i 0 ≡ v → ⊥) → place.No ≡ eatenOf (placed i s (byte v (drop i s)))
   unfolding byte
   byte-not h e = one-not _ s i h (ne-eqb _ _ e)
-
-  pub letter-end : length s ≤ i → place.No ≡ eatenOf (placed i s (letterByte v (drop i s)))
-  unfolding letterByte
-  letter-end h = no-place s i _ (one-end _ s i h)
-
-  pub letter-here : (b : ℕ) → i < length s → b ≡ upper (getD s i 0) → b ≡ v → place.At (record { i = i + 1 }) ≡ eatenOf (placed i s (letterByte v (drop i s)))
-  unfolding letterByte
-  letter-here b h g e = one-eaten _ s i h (eq-eqb _ _ (sym g ∙ e))
-
-  pub letter-not : (b : ℕ) → i < length s → b ≡ upper (getD s i 0) → (b ≡ v → ⊥) → place.No ≡ eatenOf (placed i s (letterByte v (drop i s)))
-  unfolding letterByte
-  letter-not b h g e = one-not _ s i h (ne-eqb _ _ (λ (y : upper (getD s i 0) ≡ v). e (g ∙ y)))
 
 -- ---- numbers
 module _ (s : List ℕ) (i n : ℕ) (run : Run s i n) where
@@ -284,14 +273,14 @@ module _ {A : Type 0} (s : List ℕ) (i : ℕ) where
     pub is-after : (c : Cur) (y : Option (A × List ℕ)) → r ≡ place.At c → p (drop (c .i) s) ≡ y → afterByte v p a (drop i s) ≡ y
     is-after c y g h = after-read v p a (drop i s) (some-eaten s i _ r e c g (byte-leaves v (drop i s)) .is) ∙ h
 
-  module _ (r : Eaten) (v : Char) (a : A) (xs : List (Char × A)) (e : r ≡ eatenOf (placed i s (letter v (drop i s)))) where
-    pub first-is : (c : Cur) → r ≡ place.At c → firstOf ((v, a) ∷ xs) (drop i s) ≡ some (a, drop (c .i) s)
-    first-is c g = first-read v a xs (drop i s) (some-eaten s i _ r e c g (letter-leaves _ (drop i s)) .is)
+  module _ (r : Eaten) (v : Char) (a : A) (xs : List (Char × A)) (e : r ≡ eatenOf (placed i s (letter character v (drop i s)))) where
+    pub first-is : (c : Cur) → r ≡ place.At c → firstOf character ((v, a) ∷ xs) (drop i s) ≡ some (a, drop (c .i) s)
+    first-is c g = first-read character v a xs (drop i s) (some-eaten s i _ r e c g (letter-leaves _ (drop i s)) .is)
 
-    pub first-not : (y : Option (A × List ℕ)) → r ≡ place.No → firstOf xs (drop i s) ≡ y → firstOf ((v, a) ∷ xs) (drop i s) ≡ y
-    first-not y g h = first-past v a xs (drop i s) (none-eaten s i _ r e g) ∙ h
+    pub first-not : (y : Option (A × List ℕ)) → r ≡ place.No → firstOf character xs (drop i s) ≡ y → firstOf character ((v, a) ∷ xs) (drop i s) ≡ y
+    first-not y g h = first-past character v a xs (drop i s) (none-eaten s i _ r e g) ∙ h
 
-  pub first-none : (t : List ℕ) → firstOf {A = A} [] t ≡ none
+  pub first-none : (t : List ℕ) → firstOf character {A = A} [] t ≡ none
   unfolding firstOf
   first-none t = refl
 

@@ -3,7 +3,7 @@ ghost use mathlib.Core.Path.{_≡_};
 ghost use Prim.Native.Nat.{_+_, _*_, min};
 ghost use lib.ListN.{drop};
 ghost use Rattle.parser_spec.specs.DecimalNumbers.{isDigit, digitValue, Run, most, numberOf};
-ghost use Rattle.parser_spec.specs.Parts.{atEnd, byte, letterByte, numeral, digits, digitsIn, countNumber, countOf, beforeByte};
+ghost use Rattle.parser_spec.specs.Parts.{atEnd, byte, numeral, digits, digitsIn, countNumber, countOf, beforeByte};
 ghost use Rattle.parser.specs.CursorAnswers.{readAt, eatenOf, readNumberOf, readWordOf};
 
 // A place in a text.
@@ -113,20 +113,6 @@ impl Cur {
             return Eaten::No;
         }
         if s[i] == v {
-            return Eaten::At(Cur { i: i + 1 });
-        }
-        Eaten::No
-    }
-
-    // This capital letter or its small one.
-    pub fn letter(self, s: &[u8], v: u8) -> Eaten
-        ensures { λ r. ⌜ r ≡ eatenOf (readAt (self .i) (now (s .entry)) (letterByte v)) ⌝ }
-    {
-        let i = self.i;
-        if s.len() <= i {
-            return Eaten::No;
-        }
-        if base::letter(s[i], true) == v {
             return Eaten::At(Cur { i: i + 1 });
         }
         Eaten::No

@@ -1,6 +1,5 @@
 -- What a part leaves stands at the end of what it was given, so that the place where it begins says which bytes it is.
 use Prim.Native.Nat.{ℕ, suc, _+_, _-_, _≤_}
-use Prim.Native.Char.{Char}
 use mathlib.Core.Path.{_≡_, sym, ap, _∙_, subst}
 use mathlib.Core.Bool.{Bool, true, false, cond}
 use mathlib.Core.List.{List, [], _∷_}
@@ -9,8 +8,8 @@ use native.Mathlib.Omega.{arith}
 use lib.ListN.{length, drop, length-drop}
 use lib.Seq.{drop-drop}
 use Rattle.parser_spec.specs.DecimalNumbers.{isDigit, digitRun}
-use Rattle.parser_spec.specs.Parts.{Part, then, here, oneByte, byte, letterByte, numeral, digits, digitsIn, behind, afterByte, firstOf, countNumber, countOf}
-use Rattle.parser_spec.proofs.Held.{Holds, nothing, that, weaker, and-next, or-held, numeral-held, digits-held}
+use Rattle.parser_spec.specs.Parts.{Part, then, here, oneByte, byte, numeral, digits, digitsIn, behind, afterByte, countNumber, countOf}
+use Rattle.parser_spec.proofs.Held.{Holds, nothing, that, weaker, and-next, numeral-held, digits-held}
 
 pub record Behind (s r : List ℕ) : Type 0 where
   pub shorter : length r ≤ length s
@@ -66,10 +65,6 @@ pub byte-leaves : (v : ℕ) (s : List ℕ) → Leaves s (byte v s)
 unfolding byte
 byte-leaves v s = one-leaves _ s
 
-pub letter-leaves : (v : ℕ) (s : List ℕ) → Leaves s (letterByte v s)
-unfolding letterByte
-letter-leaves v s = one-leaves _ s
-
 -- ---- numbers
 -- a run of digits lies in the text
 pub run-within : (s : List ℕ) → digitRun s ≤ length s
@@ -94,7 +89,7 @@ pub in-leaves : (max low high : ℕ) (s : List ℕ) → Leaves s (digitsIn max l
 unfolding digitsIn
 in-leaves max low high s = then-leaves (digits-leaves max s) λ n r. then-leaves (here-leaves _ r) λ u q. give-leaves q
 
--- ---- a choice, and what stands behind a byte
+-- ---- what stands behind a byte
 module _ {A : Type 0} where
   pub after-leaves : (v : ℕ) (p : Part A) (a : A) (s : List ℕ) → ((r : List ℕ) → Leaves r (p r)) → Leaves s (afterByte v p a s)
   unfolding afterByte
@@ -103,11 +98,6 @@ module _ {A : Type 0} where
       go : {z : Option (Unit {0} × List ℕ)} → Leaves s z → Leaves s (behind z p a s)
       go nothing = give-leaves s
       go (that b) = further b (f _)
-
-  pub first-leaves : (xs : List (Char × A)) (s : List ℕ) → Leaves s (firstOf xs s)
-  unfolding firstOf
-  first-leaves [] s = nothing
-  first-leaves (x ∷ xs) s = or-held (then-leaves (letter-leaves _ s) λ u r. give-leaves r) (first-leaves xs s)
 
 -- ---- counts
 pub number-leaves : (oneOrTwo : Bool) (s : List ℕ) → Leaves s (countNumber oneOrTwo s)

@@ -9,9 +9,8 @@ use native.Mathlib.Omega.{arith}
 use borrow.Author.Tests.{eqb-true, leb-true, ltb-true}
 use lib.Dec.{eqb, leb, ltb}
 use lib.ListN.{take, drop}
-use Rattle.base.specs.Chars.{upper}
 use Rattle.parser_spec.specs.DecimalNumbers.{digitRun, decimal, most, numberOf}
-use Rattle.parser_spec.specs.Parts.{Part, then, orElse, ended, whole, atEnd, here, oneByte, byte, letterByte, letter, numeral, digits, digitsIn, behind, afterByte, firstOf, countNumber, countOf}
+use Rattle.parser_spec.specs.Parts.{Part, then, orElse, ended, whole, atEnd, here, oneByte, byte, numeral, digits, digitsIn, behind, afterByte, countNumber, countOf}
 
 pub data Holds {X : Type 0} (P : X → List ℕ → Type 0) : Option (X × List ℕ) → Type 0 where
   nothing : Holds P none
@@ -72,15 +71,6 @@ module _ {X : Type 0} where
         go none = that h
         go (some w) = f (w .1)
 
-  abbrev pub AllOf : (X → Type 0) → List (Char × X) → Type 0
-  AllOf P [] = Unit {0}
-  AllOf P (x ∷ xs) = P (x .1) × AllOf P xs
-
-  pub first-held : (P : X → Type 0) (xs : List (Char × X)) → AllOf P xs → (s : List ℕ) → Holds (λ (t : X) (r : List ℕ). P t) (firstOf xs s)
-  unfolding firstOf
-  first-held P [] h s = nothing
-  first-held P (x ∷ xs) h s = or-held (and-any (letter (x .0) s) λ v r. that (h .0)) (first-held P xs (h .1) s)
-
 -- ---- a test, one byte
 pub here-held : (t : Bool) (s : List ℕ) → Holds (λ (u : Unit {0}) (r : List ℕ). (t ≡ true) × (r ≡ s)) (here t s)
 unfolding here
@@ -100,10 +90,6 @@ one-held test (b ∷ s) = weaker (λ u r h. record { value = b; passes = h .0; t
 pub byte-held : (v : ℕ) (s : List ℕ) → Holds (λ (u : Unit {0}) (r : List ℕ). s ≡ v ∷ r) (byte v s)
 unfolding byte
 byte-held v s = weaker (λ u r h. h .text ∙ ap (λ (b : ℕ). b ∷ r) (eqb-true _ _ (h .passes))) (one-held _ s)
-
-pub letter-held : (v : ℕ) (s : List ℕ) → Holds (λ (u : Unit {0}) (r : List ℕ). Read (λ b. eqb (upper b) v) s r) (letterByte v s)
-unfolding letterByte
-letter-held v s = one-held _ s
 
 -- ---- numbers
 pub record Numeral (s : List ℕ) (n : ℕ) (r : List ℕ) : Type 0 where

@@ -1,3 +1,5 @@
 pub mod Held
 pub mod Behind
 pub mod Written
+pub mod Characters
+pub mod Scalars

@@ -1,6 +1,5 @@
 -- What was written is read back: a law for each part.
 use Prim.Native.Nat.{ℕ, suc, _+_, _≤_, _<_}
-use Prim.Native.Char.{Char}
 use mathlib.Core.Path.{_≡_, refl, ap, sym, _∙_}
 use mathlib.Core.List.{List, [], _∷_, _++_}
 use mathlib.Core.Option.{Option, none, some}
@@ -10,9 +9,8 @@ use borrow.Author.Tests.{eq-eqb, le-leb, lt-ltb}
 use lib.Dec.{eqb}
 use lib.ListN.{length, take, drop}
 use lib.Seq.{take-append-seam, drop-append-seam}
-use Rattle.base.specs.Chars.{upper}
 use Rattle.parser_spec.specs.DecimalNumbers.{isDigit, digitRun, numberOf}
-use Rattle.parser_spec.specs.Parts.{Part, then, orElse, ended, whole, atEnd, here, oneByte, byte, letterByte, letter, numeral, digits, digitsIn, afterByte, firstOf, countNumber, countOf}
+use Rattle.parser_spec.specs.Parts.{Part, then, ended, whole, atEnd, here, oneByte, byte, numeral, digits, digitsIn, afterByte, countNumber, countOf}
 
 -- ---- one part behind another
 module _ {A B : Type 0} {x : Option (A × List ℕ)} (k : A → Part B) where
@@ -37,15 +35,6 @@ module _ {A : Type 0} where
   unfolding afterByte
   after-absent v p a s e = rw e
 
-  module _ (c : Char) (a : A) (xs : List (Char × A)) (t : List ℕ) where
-    pub first-read : {s : List ℕ} → letter c t ≡ some (tt, s) → firstOf ((c, a) ∷ xs) t ≡ some (a, s)
-    unfolding firstOf orElse then
-    first-read e = rw e
-
-    pub first-past : letter c t ≡ none → firstOf ((c, a) ∷ xs) t ≡ firstOf xs t
-    unfolding firstOf orElse then
-    first-past e = rw e
-
 -- ---- one byte
 pub one-read : (test : ℕ → Bool) (b : ℕ) (r : List ℕ) → test b ≡ true → oneByte test (b ∷ r) ≡ some (tt, r)
 unfolding oneByte here
@@ -54,10 +43,6 @@ one-read test b r e = rw e
 pub byte-read : (v : ℕ) (r : List ℕ) → byte v (v ∷ r) ≡ some (tt, r)
 unfolding byte
 byte-read v r = one-read _ v r (eq-eqb v v refl)
-
-pub letter-read : (v b : ℕ) (r : List ℕ) → upper b ≡ v → letterByte v (b ∷ r) ≡ some (tt, r)
-unfolding letterByte
-letter-read v b r e = one-read _ b r (eq-eqb _ _ e)
 
 -- ---- numbers: digits `d` with no digit behind them
 pub run-read : (d r : List ℕ) → digitRun d ≡ length d → digitRun r ≡ 0 → digitRun (d ++ r) ≡ length d

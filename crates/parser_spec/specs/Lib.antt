@@ -1,2 +1,3 @@
 pub mod DecimalNumbers
 pub mod Parts
+pub mod Characters

@@ -6,7 +6,6 @@ use mathlib.Core.Option.{Option, none, some}
 use mathlib.Core.Bool.{Bool, true, false, _&&_, cond}
 use lib.Dec.{leb, ltb, eqb}
 use lib.ListN.{take, drop}
-use Rattle.base.specs.Chars.{upper}
 use Rattle.parser_spec.specs.DecimalNumbers.{digitRun, numberOf}
 
 abbrev pub Part : Type 0 → Type 0
@@ -64,13 +63,6 @@ byte v = oneByte (λ b. eqb b v)
 abbrev pub sign : Char → Part (Unit {0})
 sign c = byte (code c)
 
--- this capital letter or its small one: "Letters in either case."
-unfoldable pub letterByte : ℕ → Part (Unit {0})
-letterByte v = oneByte (λ b. eqb (upper b) v)
-
-abbrev pub letter : Char → Part (Unit {0})
-letter c = letterByte (code c)
-
 -- one digit or more, and no digit behind them
 unfoldable pub numeral : Part ℕ
 numeral s = cond (ltb 0 (digitRun s)) (some (numberOf (take (digitRun s) s), drop (digitRun s) s)) none
@@ -97,11 +89,6 @@ module _ {A : Type 0} where
 
   abbrev pub after : Char → Part A → A → Part A
   after c = afterByte (code c)
-
-  -- the value of the first letter that stands
-  unfoldable pub firstOf : List (Char × A) → Part A
-  firstOf [] s = none
-  firstOf (x ∷ xs) s = orElse (then (letter (x .0) s) (λ _. give (x .1))) (firstOf xs s)
 
 -- "`{n}` is the count, any number of digits, held to 2^64 − 1, default 1; ST takes only {1} or {2}."
 unfoldable pub countNumber : Bool → Part ℕ

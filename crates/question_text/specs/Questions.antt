@@ -7,7 +7,7 @@ use Rattle.reply_status_text.specs.Texts.{textIn}
 
 abbrev pub questions : List (ℕ × List ℕ)
 questions =
-    (1, bytes "Is the tag at most 255 bytes, each below 128?")
+    (1, bytes "Is the tag at most 255 bytes and well-formed UTF-8?")
     ∷ (2, bytes "Does the tag spell an address?")
     ∷ (3, bytes "Is the tag free of a bit together with a count above 1?")
     ∷ (4, bytes "Does the value suit the address?")

@@ -9,7 +9,7 @@ pub fn question(number: u8, out: &mut [u8]) -> StatusText
 {
     // a line for each, from line 1 on
     let lines = b"
-Is the tag at most 255 bytes, each below 128?
+Is the tag at most 255 bytes and well-formed UTF-8?
 Does the tag spell an address?
 Is the tag free of a bit together with a count above 1?
 Does the value suit the address?

@@ -1,4 +1,4 @@
-use Rattle.address_spec.proofs.Forms.{tag-long, tag-high, tag-no, tag-is}
+use Rattle.address_spec.proofs.Forms.{tag-long, tag-ill, tag-no, tag-is}
 use borrow.Author.Needs.{needs}
 use Rattle.address.proofs.parse_tag.Statement.{statement}
 use Rattle.address.proofs.parse_tag.Tie as tie
@@ -9,7 +9,7 @@ parse-tag-spec =
     (tie.spec
     (λ c. search (tag-long, needs))
     (λ c κs. search needs)
-    (λ c. search (tag-high, needs))
+    (λ c. search (tag-ill, needs))
     (λ c κs. search needs)
     (λ c. search needs)
     (λ c. search needs)

@@ -1,4 +1,4 @@
-use Rattle.address_timers.proofs.Timers.{cut-short, cut-line, cut-unnamed, cut-named}
+use Rattle.address_timers.proofs.Timers.{cut-no, name-within, cut-unnamed, cut-named}
 use borrow.Author.Needs.{needs}
 use Rattle.address_timers.proofs.cut_at.Statement.{statement}
 use Rattle.address_timers.proofs.cut_at.Tie as tie
@@ -8,13 +8,12 @@ cut-at-spec =
     tie.close
     (tie.spec
     (λ c. search needs)
-    (λ c. search (cut-short, needs))
-    (λ c. search needs)
     (λ c κs. search needs)
-    (λ c. search (cut-line, needs))
     (λ c. search needs)
     (λ c. search needs)
-    (λ c. search needs)
+    (λ c. search (cut-no, needs))
+    (λ c. search (name-within, needs))
+    (λ c. search (name-within, needs))
     (λ c. search needs)
     (λ c κs. search needs)
     (λ c. search needs)

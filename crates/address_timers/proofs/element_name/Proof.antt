@@ -1,6 +1,7 @@
 use Prim.Native.Nat.{_≤_, _-_}
 use mathlib.Core.Path.{_≡_}
 use lib.ListN.{length, drop}
+use Rattle.parser_spec.specs.Characters.{character}
 use Rattle.address_spec.specs.Spelling.{separates, cuts, elementName}
 use Rattle.address_timers.proofs.Timers.{cuts-start, cuts-none, cuts-hit, cuts-miss}
 use borrow.Author.Needs.{needs}
@@ -8,7 +9,7 @@ use Rattle.address_timers.proofs.element_name.Statement.{statement}
 use Rattle.address_timers.proofs.element_name.Tie as tie
 
 abbrev Inv-loop : tie.InvT-loop
-Inv-loop c s i run k₀ k = (k ≤ length s - c .i) × (cuts separates k (drop (c .i) s) ≡ elementName separates (drop (c .i) s))
+Inv-loop c s i run k₀ k = (k ≤ length s - c .i) × (cuts character separates k (drop (c .i) s) ≡ elementName character separates (drop (c .i) s))
 
 abbrev μ-loop : tie.MeasureT-loop
 μ-loop c s i run k₀ k = k

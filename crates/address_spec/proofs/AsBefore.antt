@@ -1,0 +1,128 @@
+-- For a tag of bytes below 128 every answer is document 01's.
+use Prim.Native.Nat.{ℕ, zero, suc, min, _-_}
+use Prim.Native.Char.{Char}
+use mathlib.Core.Path.{_≡_, refl, ap, ap₂, subst, _∙_}
+use mathlib.Core.List.{List, [], _∷_}
+use mathlib.Core.Option.{Option}
+use mathlib.Core.Bool.{Bool, true, false, _&&_, cond}
+use native.Mathlib.Omega.{arith}
+use borrow.Author.Tests.{ltb-true}
+use lib.Dec.{leb, ltb}
+use lib.ListN.{length, drop}
+use Rattle.parser_spec.specs.DecimalNumbers.{digitRun}
+use Rattle.parser_spec.specs.Parts.{Part, then, atEnd, orElse, ended, whole}
+use Rattle.parser_spec.specs.Characters.{table, characterIn, character, anyByte, characters, wellFormed, one, letterOf, firstOf}
+use Rattle.parser_spec.proofs.Held.{nothing, that}
+use Rattle.parser_spec.proofs.Behind.{Leaves}
+use Rattle.parser_spec.proofs.Characters.{small-character, formed-next, any-leaves, letter-by-leaves, first-by-leaves}
+use Rattle.address_spec.specs.Spelling.{fileBefore, cut, cuts, elementName, ct, lfbn, slot, io, stOrA, sta, status, bits, orTry, lastForms, separates, formOf, accepted, ascii, addressOf, baseAddressOf, AsBefore}
+use Rattle.address_spec.specs.declared.Address.{Address}
+use Rattle.address_spec.specs.declared.Parsed.{Parsed}
+use Rattle.address_spec.specs.declared.Parsed.the-variants as parsed
+use Rattle.address_spec.proofs.PhrasesLeave.{file-leaves}
+
+both : (a b : Bool) → (a && b) ≡ true → (a ≡ true) × (b ≡ true)
+both true b e = (refl, e)
+both false b e = absurd (let z : _≡_ {A = ℕ} 0 1 = cc in omega arith)
+
+-- ---- what stands behind a part has bytes below 128 too
+rest : (k : ℕ) (s : List ℕ) → ascii s ≡ true → ascii (drop k s) ≡ true
+unfolding ascii
+rest zero s e = e
+rest (suc k) [] e = refl
+rest (suc k) (b ∷ s) e = rest k s (both (ltb b 128) (ascii s) e .1)
+
+module _ {A B : Type 0} where
+  first : {x y : Option (A × List ℕ)} (k : A → Part B) → x ≡ y → then x k ≡ then y k
+  first k p = ap (λ (z : Option (A × List ℕ)). then z k) p
+
+module _ {A B : Type 0} {s : List ℕ} (e : ascii s ≡ true) where
+  -- two parts of which the first give the same, and what follows them too
+  alike : {x y : Option (A × List ℕ)} {k l : A → Part B} → x ≡ y → Leaves s y → ((v : A) (r : List ℕ) → ascii r ≡ true → k v r ≡ l v r) → then x k ≡ then y l
+  unfolding then
+  alike {k} {l} p h f = first k p ∙ go h
+    where
+      go : {z : Option (A × List ℕ)} → Leaves s z → then z k ≡ then z l
+      go nothing = refl
+      go (that {v = v} {r = r} b) = f v r (subst (λ (q : List ℕ). ascii q ≡ true) (b .is) (rest (length s - length r) s e))
+
+-- ---- one character, and the letters
+one-alike : (test : ℕ → Bool) (s : List ℕ) → ascii s ≡ true → one character test s ≡ one anyByte test s
+unfolding one anyByte ascii characterIn table
+one-alike test [] e = refl
+one-alike test (b ∷ s) e = first _ (small-character b s (ltb-true b 128 (both (ltb b 128) (ascii s) e .0)))
+
+letter-alike : (v : ℕ) (s : List ℕ) → ascii s ≡ true → letterOf character v s ≡ letterOf anyByte v s
+unfolding letterOf
+letter-alike v s e = one-alike _ s e
+
+first-alike : {A : Type 0} (xs : List (Char × A)) (s : List ℕ) → ascii s ≡ true → firstOf character xs s ≡ firstOf anyByte xs s
+unfolding firstOf
+first-alike [] s e = refl
+first-alike {A} (x ∷ xs) s e = ap₂ (orElse {A = A}) (first _ (letter-alike _ s e)) (first-alike xs s e)
+
+-- ---- the forms
+module _ (separator : ℕ → Bool) where
+  cuts-alike : (k : ℕ) (s : List ℕ) → ascii s ≡ true → cuts character separator k s ≡ cuts anyByte separator k s
+  unfolding cuts cut
+  cuts-alike zero s e = refl
+  cuts-alike (suc k) s e = ap₂ orElse (first _ (one-alike separator (drop (suc k) s) (rest (suc k) s e))) (cuts-alike k s e)
+
+  ct-alike : (tag : List ℕ) → ascii tag ≡ true → ct character separator tag ≡ ct anyByte separator tag
+  unfolding ct whole elementName
+  ct-alike tag e =
+      ap ended (alike e (first-alike _ tag e) (first-by-leaves anyByte any-leaves _ tag) λ t r a. alike a refl (file-leaves _ r) λ f q b.
+      first _ (cuts-alike (min (digitRun q) 3) q b))
+
+module _ (tag : List ℕ) (e : ascii tag ≡ true) where
+  lfbn-alike : lfbn character tag ≡ lfbn anyByte tag
+  unfolding lfbn whole
+  lfbn-alike = ap ended (first _ (first-alike _ tag e))
+
+  io-alike : io character tag ≡ io anyByte tag
+  unfolding io slot whole
+  io-alike = ap ended (first _ (first _ (first-alike _ tag e)))
+
+  st-alike : (st : Bool) → stOrA character st tag ≡ stOrA anyByte st tag
+  unfolding stOrA
+  st-alike true = alike e (letter-alike _ tag e) (letter-by-leaves anyByte any-leaves _ tag) λ u r a. first _ (letter-alike _ r a)
+  st-alike false = first _ (letter-alike _ tag e)
+
+  sta-alike : (st : Bool) → sta character st tag ≡ sta anyByte st tag
+  unfolding sta whole
+  sta-alike st = ap ended (first _ (st-alike st))
+
+  status-alike : status character tag ≡ status anyByte tag
+  unfolding status whole
+  status-alike = ap ended (first _ (letter-alike _ tag e))
+
+  bits-alike : bits character tag ≡ bits anyByte tag
+  unfolding bits whole
+  bits-alike = ap ended (first _ (letter-alike _ tag e))
+
+  pub form-alike : (separator : ℕ → Bool) → formOf character separator tag ≡ formOf anyByte separator tag
+  unfolding formOf lastForms
+  form-alike separator =
+      ap₂ orTry (ct-alike separator tag e) (ap₂ orTry lfbn-alike (ap₂ orTry io-alike (ap₂ orTry (sta-alike true) (ap₂ orTry (sta-alike false) (ap₂ orTry status-alike bits-alike)))))
+
+-- ---- questions 1 and 2
+small-formed : (s : List ℕ) → ascii s ≡ true → wellFormed s ≡ true
+unfolding ascii wellFormed characters atEnd
+small-formed [] e = refl
+small-formed (b ∷ s) e =
+    let p = both (ltb b 128) (ascii s) e in
+    formed-next (b ∷ s) b s (small-character b s (ltb-true b 128 (p .0))) ∙ small-formed s (p .1)
+
+pub as-before : AsBefore
+unfolding addressOf baseAddressOf
+as-before tag e = rw (small-formed tag e, e, form-alike tag e separates)
+
+-- what document 01 accepts is accepted as it was
+pub stays : (tag : List ℕ) (x : Address) → baseAddressOf tag ≡ parsed.Is x → addressOf tag ≡ parsed.Is x
+unfolding baseAddressOf
+stays tag x e = go (leb (length tag) 255) (ascii tag) refl e
+  where
+    go : (l t : Bool) → ascii tag ≡ t → cond (l && t) (accepted (formOf anyByte separates tag)) (parsed.Refused 1) ≡ parsed.Is x → addressOf tag ≡ parsed.Is x
+    go l true a q = as-before tag a ∙ e
+    go true false a q = absurd (let w : _≡_ {A = ℕ} 0 1 = cc in omega arith)
+    go false false a q = absurd (let w : _≡_ {A = ℕ} 0 1 = cc in omega arith)

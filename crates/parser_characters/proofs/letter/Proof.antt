@@ -1,0 +1,21 @@
+use Rattle.parser_characters.proofs.CharacterReaders.{letter-end, letter-there, letter-other}
+use borrow.Author.Needs.{needs}
+use Rattle.parser_characters.proofs.letter.Statement.{statement}
+use Rattle.parser_characters.proofs.letter.Tie as tie
+
+pub letter-spec : {M : Type 1} → statement M
+letter-spec =
+    tie.close
+    (tie.spec
+    (λ c. search (letter-end, needs))
+    (λ c κs. search needs)
+    (λ c. search needs)
+    (λ c. search needs)
+    (λ c κs. search needs)
+    (λ c. search needs)
+    (λ c. search (letter-there, needs))
+    (λ c κs. search needs)
+    (λ c κs. search needs)
+    (λ c. search needs)
+    (λ c. search needs)
+    (λ c. search (letter-other, needs)))

@@ -1,0 +1,233 @@
+-- Laws of characters: what one leaves, which row gives it, a text of them step by step, bytes below 128.
+use Prim.Native.Nat.{ℕ, zero, suc, _+_, _*_, _-_, _≤_, _<_}
+use Prim.Native.Char.{Char}
+use mathlib.Core.Path.{_≡_, refl, ap, sym, subst, _∙_}
+use mathlib.Core.List.{List, [], _∷_}
+use mathlib.Core.Option.{Option, none, some}
+use mathlib.Core.Bool.{Bool, true, false, _&&_, cond}
+use native.Mathlib.Nat.{le-of-suc-le-suc, not-suc-le-zero}
+use native.Mathlib.Omega.{arith}
+use borrow.Author.Tests.{eq-eqb, ne-eqb, le-leb, lt-leb, leb-true, ltb-true}
+use lib.Dec.{leb, ltb, eqb}
+use lib.ListN.{length, drop, getD}
+use Rattle.base.specs.Chars.{upper}
+use Rattle.parser_spec.specs.Parts.{Part, then, here, orElse, atEnd}
+use Rattle.parser_spec.specs.Characters.{Range, within, Row, row, table, byteIn, bytesIn, pointIn, characterIn, character, anyByte, onward, characters, wellFormed, one, capital, letterOf, letter, firstOf}
+use Rattle.parser_spec.proofs.Held.{Holds, nothing, that, weaker, and-next, and-any, or-held, held-of, here-held, no-some}
+use Rattle.parser_spec.proofs.Behind.{Behind, Leaves, behind-drop, further, then-leaves, give-leaves, here-leaves}
+
+-- ---- what a character leaves
+pub tested : {A : Type 0} {P : A → List ℕ → Type 0} (t : Bool) {x y : Option (A × List ℕ)} → Holds P x → Holds P y → Holds P (cond t x y)
+tested true f g = f
+tested false f g = g
+
+pub byte-in-leaves : (r : Range) (s : List ℕ) → Leaves s (byteIn r s)
+unfolding byteIn
+byte-in-leaves r [] = nothing
+byte-in-leaves r (b ∷ s) = tested (within r b) (further (behind-drop 1 (b ∷ s) (omega arith)) (give-leaves s)) nothing
+
+bytes-leaves : (n : ℕ) (rs : List Range) (s : List ℕ) → Leaves s (bytesIn n rs s)
+unfolding bytesIn
+bytes-leaves n [] s = give-leaves s
+bytes-leaves n (r ∷ rs) s = then-leaves (byte-in-leaves r s) λ d q. bytes-leaves (n * 64 + d) rs q
+
+point-leaves : (c n : ℕ) (rs : List Range) (s : List ℕ) → Leaves s (pointIn c n rs s)
+unfolding pointIn
+point-leaves c n rs s = then-leaves (bytes-leaves n rs s) λ m r. give-leaves r
+
+-- the first byte is read
+pub lead-read : (rows : List Row) (b : ℕ) (s : List ℕ) → Leaves s (characterIn rows (b ∷ s))
+unfolding characterIn
+lead-read [] b s = nothing
+lead-read (r ∷ rows) b s = tested (within (r .lead) b) (point-leaves _ _ _ s) (lead-read rows b s)
+
+pub character-leaves : (s : List ℕ) → Leaves s (character s)
+unfolding characterIn table
+character-leaves [] = nothing
+character-leaves (b ∷ s) = further (behind-drop 1 (b ∷ s) (omega arith)) (lead-read table b s)
+
+pub any-leaves : (s : List ℕ) → Leaves s (anyByte s)
+unfolding anyByte
+any-leaves [] = nothing
+any-leaves (b ∷ s) = further (behind-drop 1 (b ∷ s) (omega arith)) (give-leaves s)
+
+module _ (char : Part ℕ) (leaves : (s : List ℕ) → Leaves s (char s)) where
+  pub one-leaves : (test : ℕ → Bool) (s : List ℕ) → Leaves s (one char test s)
+  unfolding one
+  one-leaves test s = then-leaves (leaves s) λ x r. here-leaves (test x) r
+
+  pub letter-by-leaves : (v : ℕ) (s : List ℕ) → Leaves s (letterOf char v s)
+  unfolding letterOf
+  letter-by-leaves v s = one-leaves _ s
+
+  pub first-by-leaves : {A : Type 0} (xs : List (Char × A)) (s : List ℕ) → Leaves s (firstOf char xs s)
+  unfolding firstOf
+  first-by-leaves [] s = nothing
+  first-by-leaves (x ∷ xs) s = or-held (then-leaves (letter-by-leaves _ s) λ u r. give-leaves r) (first-by-leaves xs s)
+
+pub letter-leaves : (v : ℕ) (s : List ℕ) → Leaves s (letterOf character v s)
+letter-leaves v s = letter-by-leaves character character-leaves v s
+
+pub first-leaves : {A : Type 0} (xs : List (Char × A)) (s : List ℕ) → Leaves s (firstOf character xs s)
+first-leaves xs s = first-by-leaves character character-leaves xs s
+
+-- ---- what holds of what is read, and what was written
+module _ (char : Part ℕ) where
+  pub record Read (test : ℕ → Bool) (s r : List ℕ) : Type 0 where
+    pub value : ℕ
+    pub passes : test value ≡ true
+    pub text : char s ≡ some (value, r)
+
+  pub one-read : (test : ℕ → Bool) (x : ℕ) {s r : List ℕ} → char s ≡ some (x, r) → test x ≡ true → one char test s ≡ some (tt, r)
+  unfolding one then here
+  one-read test x e h = rw (e, h)
+
+  module _ {A : Type 0} (c : Char) (a : A) (xs : List (Char × A)) (t : List ℕ) where
+    pub first-read : {s : List ℕ} → letter char c t ≡ some (tt, s) → firstOf char ((c, a) ∷ xs) t ≡ some (a, s)
+    unfolding firstOf orElse then
+    first-read e = rw e
+
+    pub first-past : letter char c t ≡ none → firstOf char ((c, a) ∷ xs) t ≡ firstOf char xs t
+    unfolding firstOf orElse then
+    first-past e = rw e
+
+  module _ {X : Type 0} where
+    abbrev pub AllOf : (X → Type 0) → List (Char × X) → Type 0
+    AllOf P [] = Unit {0}
+    AllOf P (x ∷ xs) = P (x .1) × AllOf P xs
+
+    pub first-held : (P : X → Type 0) (xs : List (Char × X)) → AllOf P xs → (s : List ℕ) → Holds (λ (t : X) (r : List ℕ). P t) (firstOf char xs s)
+    unfolding firstOf
+    first-held P [] h s = nothing
+    first-held P (x ∷ xs) h s = or-held (and-any (letter char (x .0) s) λ v r. that (h .0)) (first-held P xs (h .1) s)
+
+-- ---- a text of characters
+pub formed-none : (s : List ℕ) → character s ≡ none → wellFormed s ≡ atEnd s
+unfolding wellFormed characters
+formed-none [] e = refl
+formed-none (b ∷ s) e = rw e
+
+-- as many as there are bytes are enough
+enough : (n m : ℕ) (s : List ℕ) → length s ≤ n → length s ≤ m → characters n s ≡ characters m s
+unfolding characters characterIn table
+enough zero zero s h k = refl
+enough zero (suc m) [] h k = refl
+enough zero (suc m) (b ∷ s) h k = absurd (omega arith)
+enough (suc n) zero [] h k = refl
+enough (suc n) zero (b ∷ s) h k = absurd (omega arith)
+enough (suc n) (suc m) [] h k = refl
+enough (suc n) (suc m) (b ∷ s) h k = go (lead-read table b s) (λ r l. enough n m r (omega arith) (omega arith))
+  where
+    go : {z : Option (ℕ × List ℕ)} → Leaves s z → ((r : List ℕ) → length r ≤ length s → characters n r ≡ characters m r) → onward z (b ∷ s) (characters n) ≡ onward z (b ∷ s) (characters m)
+    go nothing f = refl
+    go (that q) f = f _ (q .shorter)
+
+pub formed-next : (s : List ℕ) (x : ℕ) (r : List ℕ) → character s ≡ some (x, r) → wellFormed s ≡ wellFormed r
+unfolding wellFormed characters characterIn table
+formed-next [] x r e = no-some e
+formed-next (b ∷ s) x r e = rw e (enough (length s) (length r) r (held-of (lead-read table b s) e .shorter) (omega arith))
+
+-- ---- which row gives a character: the one whose first byte it is
+-- the first bytes of the rows lie above h
+abbrev above : ℕ → List Row → Bool
+above h [] = true
+above h (r ∷ rows) = ltb h (r .lead .low) && above h rows
+
+-- the rows ascend by their first bytes, and no two have one in common
+abbrev apart : List Row → Bool
+apart [] = true
+apart (r ∷ rows) = above (r .lead .high) rows && apart rows
+
+pub both : (a b : Bool) → (a && b) ≡ true → (a ≡ true) × (b ≡ true)
+both true b e = (refl, e)
+both false b e = absurd (let z : _≡_ {A = ℕ} 0 1 = cc in omega arith)
+
+above-at : (h : ℕ) (rows : List Row) (k : ℕ) (d : Row) → above h rows ≡ true → k < length rows → h < getD rows k d .lead .low
+above-at h [] k d a l = absurd (not-suc-le-zero l)
+above-at h (r ∷ rows) zero d a l = ltb-true _ _ (both (ltb h (r .lead .low)) (above h rows) a .0)
+above-at h (r ∷ rows) (suc k) d a l = above-at h rows k d (both (ltb h (r .lead .low)) (above h rows) a .1) (le-of-suc-le-suc l)
+
+and-false : (t : Bool) → (t && false) ≡ false
+and-false true = refl
+and-false false = refl
+
+abbrev noRow : Row
+noRow = row 0 (record { low = 0; high = 0 }) []
+
+abbrev pub rowAt : ℕ → Row
+rowAt k = getD table k noRow
+
+-- the first bytes of the rows lie below h
+abbrev below : ℕ → List Row → Bool
+below h [] = true
+below h (r ∷ rows) = ltb (r .lead .high) h && below h rows
+
+-- the rows of code points above U+007F
+abbrev farRows : List Row → Bool
+farRows [] = true
+farRows (r ∷ rows) = leb 128 (r .first) && farRows rows
+
+module _ (b : ℕ) (s : List ℕ) where
+  past-row : (r : Row) (rows : List Row) → r .lead .high < b → characterIn (r ∷ rows) (b ∷ s) ≡ characterIn rows (b ∷ s)
+  unfolding characterIn
+  past-row r rows h = rw (lt-leb _ _ h, and-false)
+
+  row-of : (rows : List Row) (k : ℕ) (d : Row) → apart rows ≡ true → k < length rows → getD rows k d .lead .low ≤ b → b ≤ getD rows k d .lead .high
+      → characterIn rows (b ∷ s) ≡ pointIn (getD rows k d .first) (b - getD rows k d .lead .low) (getD rows k d .trail) s
+  unfolding characterIn
+  row-of [] k d a l u v = absurd (not-suc-le-zero l)
+  row-of (r ∷ rows) zero d a l u v = rw (le-leb _ _ u, le-leb _ _ v)
+  row-of (r ∷ rows) (suc k) d a l u v =
+      let p = both (above (r .lead .high) rows) (apart rows) a in
+      past-row r rows (omega (arith, above-at (r .lead .high) rows k d (p .0) (le-of-suc-le-suc l))) ∙ row-of rows k d (p .1) (le-of-suc-le-suc l) u v
+
+  under-rows : (rows : List Row) (h : ℕ) → above h rows ≡ true → b ≤ h → characterIn rows (b ∷ s) ≡ none
+  unfolding characterIn
+  under-rows [] h a l = refl
+  under-rows (r ∷ rows) h a l =
+      let p = both (ltb h (r .lead .low)) (above h rows) a in
+      rw (lt-leb (r .lead .low) b (omega (arith, ltb-true h (r .lead .low) (p .0)))) (under-rows rows h (p .1) l)
+
+  over-rows : (rows : List Row) (h : ℕ) → below h rows ≡ true → h ≤ b → characterIn rows (b ∷ s) ≡ none
+  unfolding characterIn
+  over-rows [] h a l = refl
+  over-rows (r ∷ rows) h a l =
+      let p = both (ltb (r .lead .high) h) (below h rows) a in
+      past-row r rows (omega (arith, ltb-true (r .lead .high) h (p .0))) ∙ over-rows rows h (p .1) l
+
+  -- between the first row and the second, and behind the last
+  pub no-row : 0x80 ≤ b → b ≤ 0xC1 → character (b ∷ s) ≡ none
+  unfolding table
+  no-row l h = past-row _ _ l ∙ under-rows _ 0xC1 refl h
+
+  pub no-more : 0xF5 ≤ b → character (b ∷ s) ≡ none
+  unfolding table
+  no-more l = over-rows _ 0xF5 refl l
+
+  pub in-row : (k : ℕ) → k < 9 → rowAt k .lead .low ≤ b → b ≤ rowAt k .lead .high → character (b ∷ s) ≡ pointIn (rowAt k .first) (b - rowAt k .lead .low) (rowAt k .trail) s
+  unfolding table
+  in-row k l u v = row-of table k noRow refl l u v
+
+  -- a byte above 127 begins a character above U+007F
+  least-held : (c n : ℕ) (rs : List Range) → Holds (λ (x : ℕ) (r : List ℕ). c ≤ x) (pointIn c n rs s)
+  unfolding pointIn
+  least-held c n rs = and-any _ λ m r. that (omega arith)
+
+  far-held : (rows : List Row) → farRows rows ≡ true → Holds (λ (x : ℕ) (r : List ℕ). 128 ≤ x) (characterIn rows (b ∷ s))
+  unfolding characterIn
+  far-held [] a = nothing
+  far-held (r ∷ rows) a =
+      let p = both (leb 128 (r .first)) (farRows rows) a in
+      tested (within (r .lead) b) (weaker (λ x q h. omega (arith, leb-true 128 (r .first) (p .0))) (least-held (r .first) (b - r .lead .low) (r .trail))) (far-held rows (p .1))
+
+  pub far : 128 ≤ b → Holds (λ (x : ℕ) (r : List ℕ). 128 ≤ x) (character (b ∷ s))
+  unfolding table
+  far h = subst (Holds (λ (x : ℕ) (r : List ℕ). 128 ≤ x)) (sym (past-row _ _ h)) (far-held (drop 1 table) refl)
+
+  -- a byte below 128 is a character by itself
+  pub small-character : b < 128 → character (b ∷ s) ≡ some (b, s)
+  unfolding pointIn bytesIn then table
+  small-character h = in-row 0 (omega arith) (omega arith) (omega arith) ∙ ap (λ (x : ℕ). some (x, s)) (omega arith)
+
+pub small-capital : (x : ℕ) → x < 128 → capital x ≡ upper x
+small-capital x h = rw (ne-eqb x 0x131 (λ e. omega arith), ne-eqb x 0x17F (λ e. omega arith))

@@ -1,0 +1,112 @@
+-- Characters of a text, by the Unicode Standard's table of well-formed UTF-8 byte sequences (table 3-7), and file letters.
+use Prim.Native.Nat.{ℕ, zero, suc, _+_, _*_, _-_}
+use Prim.Native.Char.{Char, code}
+use mathlib.Core.List.{List, [], _∷_}
+use mathlib.Core.Option.{Option, none, some}
+use mathlib.Core.Bool.{Bool, _&&_, cond}
+use lib.Dec.{leb, ltb, eqb}
+use lib.ListN.{length}
+use Rattle.base.specs.Chars.{upper}
+use Rattle.parser_spec.specs.Parts.{Part, then, _>>=_, give, here, orElse, atEnd}
+
+-- ---- one character
+-- bytes from low to high
+pub record Range : Type 0 where
+  pub low : ℕ
+  pub high : ℕ
+
+infixl 80 _to_
+abbrev pub _to_ : ℕ → ℕ → Range
+_to_ a b = record { low = a; high = b }
+
+abbrev pub within : Range → ℕ → Bool
+within r b = leb (r .low) b && leb b (r .high)
+
+-- a row of the table: the first of its code points, the range of the first byte, and the ranges of those behind it
+pub record Row : Type 0 where
+  pub first : ℕ
+  pub lead : Range
+  pub trail : List Range
+
+abbrev pub row : ℕ → Range → List Range → Row
+row c l t = record { first = c; lead = l; trail = t }
+
+-- the table, row by row
+unfoldable pub table : List Row
+table =
+    row 0x0000 (0x00 to 0x7F) []
+    ∷ row 0x0080 (0xC2 to 0xDF) (0x80 to 0xBF ∷ [])
+    ∷ row 0x0800 (0xE0 to 0xE0) (0xA0 to 0xBF ∷ 0x80 to 0xBF ∷ [])
+    ∷ row 0x1000 (0xE1 to 0xEC) (0x80 to 0xBF ∷ 0x80 to 0xBF ∷ [])
+    ∷ row 0xD000 (0xED to 0xED) (0x80 to 0x9F ∷ 0x80 to 0xBF ∷ [])
+    ∷ row 0xE000 (0xEE to 0xEF) (0x80 to 0xBF ∷ 0x80 to 0xBF ∷ [])
+    ∷ row 0x10000 (0xF0 to 0xF0) (0x90 to 0xBF ∷ 0x80 to 0xBF ∷ 0x80 to 0xBF ∷ [])
+    ∷ row 0x40000 (0xF1 to 0xF3) (0x80 to 0xBF ∷ 0x80 to 0xBF ∷ 0x80 to 0xBF ∷ [])
+    ∷ row 0x100000 (0xF4 to 0xF4) (0x80 to 0x8F ∷ 0x80 to 0xBF ∷ 0x80 to 0xBF ∷ [])
+    ∷ []
+
+-- a byte of a range, counted from its lowest
+unfoldable pub byteIn : Range → Part ℕ
+byteIn r [] = none
+byteIn r (b ∷ s) = cond (within r b) (some (b - r .low, s)) none
+
+-- a byte for each range, behind the number n: the sequences of a row are counted in order, 64 to each byte behind the first
+unfoldable pub bytesIn : ℕ → List Range → Part ℕ
+bytesIn n [] = give n
+bytesIn n (r ∷ rs) = do d ← byteIn r; bytesIn (n * 64 + d) rs
+
+-- the code point that stands as far behind the row's first as its bytes do
+unfoldable pub pointIn : ℕ → ℕ → List Range → Part ℕ
+pointIn c n rs = do m ← bytesIn n rs; give (c + m)
+
+-- the character that the row of the first byte gives
+unfoldable pub characterIn : List Row → Part ℕ
+characterIn [] s = none
+characterIn (r ∷ rows) [] = none
+characterIn (r ∷ rows) (b ∷ s) = cond (within (r .lead) b) (pointIn (r .first) (b - r .lead .low) (r .trail) s) (characterIn rows (b ∷ s))
+
+-- A2: "a character is a code point"
+abbrev pub character : Part ℕ
+character = characterIn table
+
+-- document 01, which stops at byte 127: a byte is a character
+unfoldable pub anyByte : Part ℕ
+anyByte [] = none
+anyByte (b ∷ s) = some (b, s)
+
+-- ---- a text of characters
+abbrev pub onward : Option (ℕ × List ℕ) → List ℕ → (List ℕ → Bool) → Bool
+onward none s k = atEnd s
+onward (some x) s k = k (x .1)
+
+-- characters one behind another up to the end, at most so many
+unfoldable pub characters : ℕ → List ℕ → Bool
+characters zero s = atEnd s
+characters (suc n) s = onward (character s) s (characters n)
+
+-- A2: "a tag is well-formed UTF-8"; each character has a byte or more
+unfoldable pub wellFormed : List ℕ → Bool
+wellFormed s = characters (length s) s
+
+-- ---- where a character is read, by one of the two readers
+module _ (char : Part ℕ) where
+  -- one character that passes a test
+  unfoldable pub one : (ℕ → Bool) → Part (Unit {0})
+  one test = do x ← char; here (test x)
+
+-- A2: "U+0131 is an I and U+017F is an S where a file letter is read"; document 01: "Letters in either case."
+abbrev pub capital : ℕ → ℕ
+capital x = cond (eqb x 0x131) (code "I") (cond (eqb x 0x17F) (code "S") (upper x))
+
+module _ (char : Part ℕ) where
+  -- this capital letter, in either case
+  unfoldable pub letterOf : ℕ → Part (Unit {0})
+  letterOf v = one char (λ x. eqb (capital x) v)
+
+  abbrev pub letter : Char → Part (Unit {0})
+  letter c = letterOf (code c)
+
+  -- the value of the first letter that stands
+  unfoldable pub firstOf : {A : Type 0} → List (Char × A) → Part A
+  firstOf [] s = none
+  firstOf (x ∷ xs) s = orElse (then (letter (x .0) s) (λ _. give (x .1))) (firstOf xs s)
