@@ -1,5 +1,5 @@
 //! The answers. Every answer about bytes comes from the unchanged original; here stand only the questions that
-//! document 01 marks as added, and the numbers of the original's errors.
+//! document 01 marks as added (1 as document 02's A2 has it), and the numbers of the original's errors.
 use crate::hex::hex;
 use crate::protocol::{Call, ElementValue, File, WriteValue, parse};
 use ciplink::slc::pccc::{self, Address, FileType, Requestor};
@@ -239,9 +239,9 @@ impl Oracle {
         }
     }
 
-    /// Questions 1 and 2. (In raw mode any UTF-8: document 02's A2 needs that.)
+    /// Questions 1 and 2. In raw mode a tag is UTF-8 of any length.
     fn address(&self, tag: Vec<u8>) -> Result<(String, Address), String> {
-        if !self.raw && (tag.len() > 255 || tag.iter().any(|&c| c >= 128)) {
+        if !self.raw && (tag.len() > 255 || std::str::from_utf8(&tag).is_err()) {
             return Err(refused(1));
         }
         let tag = utf8(tag)?;
