@@ -1,5 +1,5 @@
 //! Address texts: `tag`.
-use super::{Lines, any_hex, text_or_none, then_random};
+use super::{Lines, any_hex, text_or_none, then_random, utf8};
 use crate::hex::hex;
 use crate::rng::Rng;
 
@@ -107,29 +107,36 @@ pub fn lines(rng: Rng) -> Lines {
             short.extend(b"0:/T".iter().map(|&c| vec![*a, *b, c]));
         }
     }
-    let short = short.iter().map(|t| format!("tag {}", hex(t))).collect();
-    then_random(vec![settled(), short], rng, random)
+    let listed = |tags: Vec<Vec<u8>>| tags.iter().map(|t| format!("tag {}", hex(t))).collect();
+    then_random(
+        vec![settled(), listed(short), listed(utf8::tags())],
+        rng,
+        random,
+    )
 }
 
 fn random(rng: &mut Rng) -> String {
     let mut tag = spelled(rng);
-    match rng.below(12) {
-        0 | 1 => damage(rng, &mut tag),
-        2 => {
+    match rng.below(20) {
+        0..=2 => damage(rng, &mut tag),
+        3 => {
             damage(rng, &mut tag);
             damage(rng, &mut tag);
         }
-        3 if rng.once_in(4) => lengthen(rng, &mut tag),
+        4 => lengthen(rng, &mut tag),
+        5 | 6 => utf8::put_character(rng, &mut tag),
+        7..=9 => utf8::put_broken(rng, &mut tag),
         _ => {}
     }
     format!("tag {}", any_hex(rng, &tag))
 }
 
-/// Digits of a number near the ends of the ranges, sometimes with zeros before it.
-fn digits(rng: &mut Rng, ends: &[u64]) -> String {
-    let n = match rng.below(3) {
+/// Digits of a number up to `last` or near the ends of the ranges, sometimes with zeros before it.
+fn digits(rng: &mut Rng, last: usize, ends: &[u64]) -> String {
+    let n = match rng.below(4) {
         0 => rng.below(260) as u64,
-        _ => rng.pick(ends),
+        1 => rng.pick(ends),
+        _ => rng.below(last + 1) as u64,
     };
     let zeros = if rng.once_in(6) { rng.below(4) } else { 0 };
     format!("{}{n}", "0".repeat(zeros))
@@ -137,36 +144,36 @@ fn digits(rng: &mut Rng, ends: &[u64]) -> String {
 
 fn count(rng: &mut Rng) -> String {
     match rng.below(6) {
-        0 => format!("{{{}}}", digits(rng, &[0, 1, 2, 3, 127, 128, 255, 256])),
+        0 => format!("{{{}}}", digits(rng, 3, &[0, 1, 2, 3, 127, 128, 255, 256])),
         1 => format!(
             "{{{}}}",
-            digits(
-                rng,
-                &[u64::MAX, u64::MAX - 1, 1 << 63, 9_999_999_999_999_999_999]
-            )
+            rng.pick(&[u64::MAX, u64::MAX - 1, 1 << 63, 9_999_999_999_999_999_999])
         ),
-        2 => format!("{{{}0}}", digits(rng, &[u64::MAX, 1 << 61])),
+        2 => format!("{{{}0}}", digits(rng, 12, &[u64::MAX, 1 << 61])),
         _ => String::new(),
     }
 }
 
 fn bit(rng: &mut Rng) -> String {
     match rng.below(3) {
-        0 => format!("/{}", digits(rng, &[0, 1, 9, 10, 15, 16, 99, 100])),
+        0 => format!("/{}", digits(rng, 15, &[0, 1, 9, 10, 15, 16, 99, 100])),
         _ => String::new(),
     }
 }
 
-/// One of the seven spellings, mostly in range.
+/// One of the seven spellings, mostly in range, with letters and separators past U+007F.
 pub(super) fn spelled(rng: &mut Rng) -> Vec<u8> {
-    let file = digits(rng, &[0, 1, 7, 254, 255, 256, 999, 1000]);
-    let element = digits(rng, &[0, 1, 9, 254, 255, 256, 999, 1000]);
+    let file = digits(rng, 255, &[0, 1, 7, 254, 255, 256, 999, 1000]);
+    let element = digits(rng, 255, &[0, 1, 9, 254, 255, 256, 999, 1000]);
     let (bit, count) = (bit(rng), count(rng));
     let text = match rng.below(7) {
         0 => {
             let (letter, name) = (rng.pick(&["C", "T"]), rng.pick(NAMES));
-            let separator = rng.pick(b"./:0123456789A{ \0\r\n");
-            format!("{letter}{file}:{element}{}{name}", char::from(separator))
+            let separator = match rng.below(2) {
+                0 => utf8::character(rng),
+                _ => char::from(rng.pick(b"./:0123456789A{ \0\r\n")),
+            };
+            format!("{letter}{file}:{element}{separator}{name}")
         }
         1 | 2 => format!(
             "{}{file}:{element}{bit}{count}",
@@ -175,19 +182,22 @@ pub(super) fn spelled(rng: &mut Rng) -> Vec<u8> {
         3 => {
             let ignored = if rng.once_in(2) { file } else { String::new() };
             let position = match rng.below(2) {
-                0 => format!(".{}", digits(rng, &[0, 1, 254, 255, 256, 300, 999, 1000])),
+                0 => format!(
+                    ".{}",
+                    digits(rng, 999, &[0, 1, 254, 255, 256, 300, 999, 1000])
+                ),
                 _ => String::new(),
             };
             format!(
                 "{}{ignored}:{element}{position}{bit}{count}",
-                rng.pick(&["I", "O"])
+                rng.pick(&["I", "O", "ı"])
             )
         }
-        4 => format!("{}{file}:{element}{count}", rng.pick(&["ST", "A"])),
-        5 => format!("S:{element}{bit}{count}"),
+        4 => format!("{}{file}:{element}{count}", rng.pick(&["ST", "A", "ſT"])),
+        5 => format!("{}:{element}{bit}{count}", rng.pick(&["S", "ſ"])),
         _ => format!(
             "B{file}/{}{count}",
-            digits(rng, &[0, 15, 16, 4094, 4095, 4096, 9999, 10000])
+            digits(rng, 4095, &[0, 15, 16, 4094, 4095, 4096, 9999, 10000])
         ),
     };
     let mut tag = text.into_bytes();
@@ -212,13 +222,45 @@ pub(super) fn damage(rng: &mut Rng, tag: &mut Vec<u8>) {
     }
 }
 
-/// Around 255 bytes, by digits of the count.
+/// Around 255 bytes: by digits of the count, or with a character, whole or cut, near byte 255.
 pub(super) fn lengthen(rng: &mut Rng, tag: &mut Vec<u8>) {
-    tag.extend(b"{");
-    let n = rng
-        .pick(&[240usize, 250, 255, 256, 300])
-        .saturating_sub(tag.len() + 1)
-        + rng.below(3);
-    tag.extend((0..n).map(|_| rng.pick(b"0019")));
-    tag.extend(b"}");
+    let to = 252 + rng.below(7);
+    match rng.below(5) {
+        0 => {
+            tag.extend(b"{");
+            let n = rng
+                .pick(&[240usize, 250, 255, 256, 300])
+                .saturating_sub(tag.len() + 1)
+                + rng.below(3);
+            tag.extend((0..n).map(|_| rng.pick(b"0019")));
+            tag.extend(b"}");
+        }
+        // accepted up to 255 bytes
+        1 => {
+            let start = rng.pick(&["ı:0", "ı99:3.300", "ſ:1", "ſ:1/15", "N7:0", "A9:0", "O:1/2"]);
+            *tag = [start, "{"].concat().into_bytes();
+            tag.resize(to - 2, b'0');
+            tag.extend([rng.pick(b"019"), b'}']);
+        }
+        2 | 3 => {
+            tag.extend(b"{");
+            tag.resize(251 + rng.below(5), b'0');
+            match rng.below(4) {
+                0 => tag.extend(utf8::broken(rng)),
+                _ => tag.extend(utf8::character(rng).to_string().bytes()),
+            }
+            let digits = rng.pick(&[0, 0, 1, 9]);
+            tag.extend((0..digits).map(|_| b'1'));
+            tag.extend(&b"}"[..rng.below(2)]);
+        }
+        _ => {
+            let c = utf8::character(rng).to_string();
+            while tag.len() < to {
+                tag.extend(c.bytes());
+            }
+            if rng.once_in(2) {
+                tag.truncate(to);
+            }
+        }
+    }
 }

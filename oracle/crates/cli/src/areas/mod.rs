@@ -1,4 +1,4 @@
-//! What `generate` writes, by area. An area is a file here with a function `lines`, and a row of `AREAS`.
+//! What `generate` writes, by area. An area is a file here with a function `lines`, and a row of `AREAS`; `utf8` is what several of them use.
 mod address;
 mod codec;
 mod directory;
@@ -8,6 +8,7 @@ mod reply;
 mod request;
 mod room;
 mod syntax;
+mod utf8;
 
 use crate::hex::hex;
 use crate::rng::Rng;

@@ -1,6 +1,6 @@
 //! Requests: `read`, `write`, `proc`, `datalogreq`, `dirsizereq` and `dirreadreq`; and every call that has an output, in less room.
 use super::address::{SETTLED, damage, lengthen, spelled};
-use super::{Lines, any_hex, text_or_none, then_random};
+use super::{Lines, any_hex, text_or_none, then_random, utf8};
 use crate::rng::Rng;
 
 /// The default requester.
@@ -54,6 +54,25 @@ const WRITES: &[(&str, &str)] = &[
     ("A9:0{2}", "text 6162"),
     ("ST9:0{2}", "text 6162"),
 ];
+/// Writes with a character past U+007F in the tag (A2 of document 02).
+const CHARACTERS: &[(&str, &str)] = &[
+    ("ı:3.300/5", "bool 1"),
+    ("ı:3.300", "raw FFFF0100"),
+    ("ı:3.300", "bool 1"),
+    ("ı:3/5{2}", "bool 1"),
+    ("ſ:1/15", "bool 1"),
+    ("ſ:1/15", "text 61"),
+    ("ſt9:0", "text 616263"),
+    ("ſT9:0{2}", "text 616263"),
+    ("ſT9:0{3}", "text 616263"),
+    ("T4:0éPRE", "raw FFFF0100"),
+    ("C5:255€ACC", "raw FFFF0100"),
+    ("T4:1😀EN", "bool 1"),
+    ("T4:1😀PRE", "bool 1"),
+    ("T4:1\u{10FFFF}EN", "text 61"),
+    ("T4:1ééEN", "bool 1"),
+    ("N7:ı/3", "bool 1"),
+];
 /// Rooms near the bounds of question 6.
 const ROOMS: &[u64] = &[
     0,
@@ -103,10 +122,27 @@ pub fn lines(rng: Rng) -> Lines {
             queues.collect(),
             texts.collect(),
             in_rooms(),
+            characters(),
         ],
         rng,
         random,
     )
+}
+
+/// Characters past U+007F, and bytes that aren't well-formed.
+fn characters() -> Vec<String> {
+    let reads = utf8::tags();
+    let reads = reads
+        .iter()
+        .map(|t| format!("read {} {REQ} 4660", text_or_none(t)));
+    let writes = CHARACTERS
+        .iter()
+        .map(|(t, value)| format!("write {} {REQ} 4660 {value}", tag(t)));
+    let broken = utf8::BROKEN.iter().map(|b| {
+        let t = text_or_none(&[b"T4:1", *b, b"EN"].concat());
+        format!("write {t} {REQ} 4660 bool 1")
+    });
+    writes.chain(broken).chain(reads).collect()
 }
 
 fn tag(text: &str) -> String {
@@ -230,7 +266,9 @@ fn any_tag(rng: &mut Rng) -> String {
     let mut text = spelled(rng);
     match rng.below(20) {
         0 => damage(rng, &mut text),
-        1 if rng.once_in(4) => lengthen(rng, &mut text),
+        1 if rng.once_in(2) => lengthen(rng, &mut text),
+        2 => utf8::put_character(rng, &mut text),
+        3 => utf8::put_broken(rng, &mut text),
         _ => {}
     }
     any_hex_or_none(rng, &text)
