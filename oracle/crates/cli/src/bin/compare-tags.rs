@@ -79,13 +79,32 @@ fn answers(
     Ok((output, (!status.success()).then(|| status.to_string())))
 }
 
+/// What long lines are made of: single bytes, and characters of two, three and four.
+const UNITS: &[&[u8]] = &[
+    b"A",
+    b"0",
+    b"{",
+    b"\0",
+    b"\r",
+    b"\x80",
+    "ı".as_bytes(),
+    "ſ".as_bytes(),
+    "€".as_bytes(),
+    "😀".as_bytes(),
+    "a😀".as_bytes(),
+];
+
+/// A unit again and again, `n` bytes: the last may be cut.
+fn repeated(unit: &[u8], n: usize) -> Vec<u8> {
+    unit.iter().copied().cycle().take(n).collect()
+}
+
 /// Any line: the generator's tags (also with a newline in them), and now and then any bytes, none or very many.
 fn line(rng: &mut Rng, tags: &mut areas::Lines) -> Vec<u8> {
     match rng.below(2000) {
         0 => {
             let n = rng.pick(&[300, 4094, 4095, 4096, 4097, 65535, 65536, 70000]) + rng.below(3);
-            let byte = rng.pick(b"A0{\0\r\x80");
-            vec![byte; n]
+            repeated(rng.pick(UNITS), n)
         }
         1..=20 => {
             let n = 253 + rng.below(5);
@@ -96,6 +115,10 @@ fn line(rng: &mut Rng, tags: &mut areas::Lines) -> Vec<u8> {
             rng.bytes(n)
         }
         61..=80 => Vec::new(),
+        81..=120 => {
+            let n = 248 + rng.below(13);
+            repeated(rng.pick(UNITS), n)
+        }
         _ => {
             let call = tags.next().expect("the areas never end");
             let tag = call
