@@ -43,10 +43,14 @@ impl Tally {
 
 type Area = (&'static str, &'static str, fn(&mut Tally));
 
-const AREAS: [Area; 8] = [
+const AREAS: [Area; 12] = [
     ("short", "every text of at most 4 bytes below 128: parse_tag, and read_request where it is accepted", texts::short),
     ("signs", "every text of at most 7 of the signs N T I S 7 1 0 : . / { } P: the same", texts::signs),
     ("forms", "15 beginnings, as N7: and T4:1, with at most 5 of 19 signs behind: the same", texts::forms),
+    ("letters", "8 beginnings, as ı and ſT9: and T4:1, with at most 5 of 22 signs behind, ı, ſ and é among them: the same", texts::letters),
+    ("characters", "every character of Unicode in 30 places, as ?:0 and T4:1?PRE (texts.rs lists them): the same", texts::characters),
+    ("sequences", "every sequence of 1 or 2 bytes, and of 3 or 4 out of 31 around the ends of the UTF-8 table, as the letter of ?:0 and as the separator of T4:1?PRE: the same, 1 where it isn't UTF-8", texts::sequences),
+    ("long", "counts of zeros in texts of up to 300 bytes; é, € and 😀 over and over, of up to 300, and at bytes 240 to 260, whole and cut: the same, 1 above 255 bytes", texts::long),
     ("commands", "every command made of the fields that commands.rs lists, to three processors: pccc, and the files that it leaves", commands::all),
     ("bounds", "every read of 0 to 255 bytes and every write of 0 to 7, from every element and each of its first five words, of every file: the same", commands::bounds),
     ("rows", "every directory of at most 6 of the bytes 00 01 82 83 89 8D FF, with rows of 1 to 4 bytes from byte 0 to 3 on: parse_file_directory", rows::all),

@@ -9,9 +9,18 @@ const SEQUENCE: u16 = 0x1234;
 /// Code, file, element, position, sub-element, bit, count, bytes kept.
 type Fields = (u8, u16, u16, Option<u16>, Option<u16>, bool, u64, usize);
 
-fn rust_address(text: &str) -> Option<Fields> {
-    let a = pccc::parse_tag(text)?;
-    Some((
+/// The text that the Rust takes; 1 above 255 bytes, and for what isn't UTF-8 by the standard library's own test.
+fn text_of(bytes: &[u8]) -> Result<&str, u8> {
+    if bytes.len() > 255 {
+        return Err(1);
+    }
+    std::str::from_utf8(bytes).map_err(|_| 1)
+}
+
+/// Document 01's 2 is the Rust's `None`.
+fn rust_address(text: &str) -> Result<Fields, u8> {
+    let a = pccc::parse_tag(text).ok_or(2)?;
+    Ok((
         a.file_type.code(),
         a.file_number,
         a.element_number,
@@ -23,15 +32,9 @@ fn rust_address(text: &str) -> Option<Fields> {
     ))
 }
 
-/// Document 01's 2 is the Rust's `None`; no other number fits a text below 128.
-fn our_address(text: &[u8]) -> Result<Option<Fields>, Refused> {
-    match slc_link::parse_tag(text) {
-        Ok(a) => {
-            Ok(Some((a.file_type.code(), a.file_number, a.element_number, a.position, a.sub_element, a.bit, a.element_count, a.kept)))
-        }
-        Err(Refused::Tag) => Ok(None),
-        Err(other) => Err(other),
-    }
+fn our_address(text: &[u8]) -> Result<Fields, u8> {
+    let a = slc_link::parse_tag(text).map_err(Refused::number)?;
+    Ok((a.file_type.code(), a.file_number, a.element_number, a.position, a.sub_element, a.bit, a.element_count, a.kept))
 }
 
 /// The message, or document 01's number for the Rust's error.
@@ -51,16 +54,19 @@ fn our_request(text: &[u8]) -> Result<Vec<u8>, u8> {
     }
 }
 
+/// Texts that `--faults` answers with 2, one of them in each area.
+const SPOILT: [&[u8]; 4] = [b"N7:1", "ı9:0".as_bytes(), b"T4:1\xED\xA0\x80PRE", "ı:0{000001}".as_bytes()];
+
 fn one(t: &mut Tally, text: &[u8], requestor: &Requestor) {
-    let spelled = std::str::from_utf8(text).expect("bytes below 128");
-    let rust = rust_address(spelled);
+    let spelled = text_of(text);
+    let rust = spelled.and_then(rust_address);
     let mut ours = our_address(text);
-    if t.spoilt && text == b"N7:1" {
-        ours = Ok(None);
+    if t.spoilt && SPOILT.contains(&text) {
+        ours = Err(2);
     }
-    let accepted = rust.is_some();
-    t.compare(text, accepted, Ok(rust), ours);
-    if accepted && !t.spoilt {
+    let accepted = rust.is_ok();
+    t.compare(text, accepted, rust, ours);
+    if let (Ok(spelled), true, false) = (spelled, accepted, t.spoilt) {
         let (rust, ours) = (rust_request(spelled, requestor), our_request(text));
         if rust != ours {
             t.differences += 1;
@@ -69,49 +75,156 @@ fn one(t: &mut Tally, text: &[u8], requestor: &Requestor) {
     }
 }
 
-/// `text`, and all texts that begin with it and have at most `most` bytes, the others of the signs.
-fn begun(t: &mut Tally, text: &mut Vec<u8>, signs: &[u8], most: usize, requestor: &Requestor) {
+/// The characters of a text, each as its bytes.
+fn each(text: &str) -> Vec<&[u8]> {
+    text.char_indices().map(|(i, c)| &text.as_bytes()[i..i + c.len_utf8()]).collect()
+}
+
+/// `text`, and all texts of it and at most `more` signs.
+fn begun(t: &mut Tally, text: &mut Vec<u8>, signs: &[&[u8]], more: usize, requestor: &Requestor) {
     one(t, text, requestor);
-    if text.len() == most {
+    if more == 0 {
         return;
     }
-    for &sign in signs {
-        text.push(sign);
-        begun(t, text, signs, most, requestor);
-        text.pop();
+    let n = text.len();
+    for sign in signs {
+        text.extend_from_slice(sign);
+        begun(t, text, signs, more - 1, requestor);
+        text.truncate(n);
     }
 }
 
-/// `start`, and all texts of it and at most `more` signs; in two threads, each with every second sign behind `start`.
-fn every(t: &mut Tally, start: &[u8], signs: &[u8], more: usize) {
+/// The two halves of the work, in two threads.
+fn halves(t: &mut Tally, half: impl Fn(&mut Tally, usize) + Sync) {
     let spoilt = t.spoilt;
-    let half = |odd: usize| {
+    let part = |odd: usize| {
         let mut part = Tally { spoilt, ..Tally::default() };
-        for &sign in signs.iter().skip(odd).step_by(2) {
-            begun(&mut part, &mut [start, &[sign]].concat(), signs, start.len() + more, &Requestor::default());
-        }
+        half(&mut part, odd);
         part
     };
     std::thread::scope(|s| {
-        let other = s.spawn(|| half(1));
-        t.add(half(0));
+        let other = s.spawn(|| part(1));
+        t.add(part(0));
         t.add(other.join().expect("the other half"));
     });
-    one(t, start, &Requestor::default());
+}
+
+/// `start`, and all texts of it and at most `more` signs; each thread has every second sign behind `start`.
+fn every(t: &mut Tally, start: &str, signs: &str, more: usize) {
+    let signs = each(signs);
+    halves(t, |part, odd| {
+        for sign in signs.iter().skip(odd).step_by(2) {
+            begun(part, &mut [start.as_bytes(), sign].concat(), &signs, more - 1, &Requestor::default());
+        }
+    });
+    one(t, start.as_bytes(), &Requestor::default());
 }
 
 pub fn short(t: &mut Tally) {
-    let all: Vec<u8> = (0..128).collect();
-    every(t, b"", &all, 4);
+    let all: String = (0..128u8).map(char::from).collect();
+    every(t, "", &all, 4);
 }
 
 pub fn signs(t: &mut Tally) {
-    every(t, b"", b"NTIS710:./{}P", 7);
+    every(t, "", "NTIS710:./{}P", 7);
 }
 
 pub fn forms(t: &mut Tally) {
     let starts = ["N7:", "B3/", "B3:", "I:", "I1:", "O", "S:", "S2:", "ST9:", "A9:", "L9:", "F8:", "T4:1", "C5:2", "R6:0"];
     for start in starts {
-        every(t, start.as_bytes(), b"0159:./{}PRACEDNTU ", 5);
+        every(t, start, "0159:./{}PRACEDNTU ", 5);
+    }
+}
+
+pub fn letters(t: &mut Tally) {
+    for start in ["ı", "ı1:", "ſ", "ſ:", "ſT9:", "T4:1", "C5:2é", "N7:0"] {
+        every(t, start, "0159:./{}PRACEDNTU ıſé", 5);
+    }
+}
+
+/// Where a character is put: the letter, digits, signs, the separator, names, count, in front and behind.
+const PLACES: [&str; 30] = [
+    "?", "?:0", "?9:0", "?t9:0", "S?9:0", "?4:1.PRE", "?3/5", "?N7:0", "N?:0", "N7?0", "N8:?", "N7:0?", "N7:0?3", "N7:0/?", "N7:0{?}", "N7:0?2}",
+    "N7:0{2?", "N7:0{2}?", "I?0", "I:0?1", "I:0.?", "B3?5", "S:1?15", "T4:?.PRE", "T4:1?PRE", "T4:1?.PRE", "T4:1.?RE", "T4:1.AC?", "T4:1.?N",
+    "T4:1.PRE?",
+];
+
+pub fn characters(t: &mut Tally) {
+    halves(t, |part, odd| {
+        let requestor = Requestor::default();
+        for place in PLACES.iter().skip(odd).step_by(2) {
+            let (front, behind) = place.split_once('?').expect("a place");
+            let mut text = String::new();
+            for c in '\0'..=char::MAX {
+                text.clear();
+                text.push_str(front);
+                text.push(c);
+                text.push_str(behind);
+                one(part, text.as_bytes(), &requestor);
+            }
+        }
+    });
+}
+
+/// Signs of tags, and the ends of the rows of the UTF-8 table with their neighbours.
+const BYTES: [u8; 31] = [
+    0x00, 0x0A, 0x2E, 0x31, 0x49, 0x7F, 0x80, 0x8F, 0x90, 0x9F, 0xA0, 0xB1, 0xBF, 0xC0, 0xC1, 0xC2, 0xC4, 0xC5, 0xDF, 0xE0, 0xE1, 0xEC, 0xED, 0xEE,
+    0xEF, 0xF0, 0xF1, 0xF3, 0xF4, 0xF5, 0xFF,
+];
+
+/// As the separator of a timer, and as the letter.
+fn sequence(t: &mut Tally, bytes: &[u8], requestor: &Requestor) {
+    one(t, &[b"T4:1", bytes, b"PRE"].concat(), requestor);
+    one(t, &[bytes, b":0"].concat(), requestor);
+}
+
+pub fn sequences(t: &mut Tally) {
+    let requestor = Requestor::default();
+    for a in 0..=255 {
+        sequence(t, &[a], &requestor);
+        for b in 0..=255 {
+            sequence(t, &[a, b], &requestor);
+        }
+    }
+    halves(t, |part, odd| {
+        for a in BYTES.into_iter().skip(odd).step_by(2) {
+            for b in BYTES {
+                for c in BYTES {
+                    sequence(part, &[a, b, c], &requestor);
+                    for d in BYTES {
+                        sequence(part, &[a, b, c, d], &requestor);
+                    }
+                }
+            }
+        }
+    });
+}
+
+/// Zeros up to `at`, then `c`, then zeros, `length` bytes in all, so that `c` may be cut.
+fn zeros_around(start: &str, at: usize, c: &str, length: usize) -> Vec<u8> {
+    let mut text = start.as_bytes().to_vec();
+    text.resize(at, b'0');
+    text.extend_from_slice(c.as_bytes());
+    text.resize(length, b'0');
+    text
+}
+
+pub fn long(t: &mut Tally) {
+    let requestor = Requestor::default();
+    for start in ["ı:0{", "ſ:1/2{", "N7:0{"] {
+        for at in start.len()..=298 {
+            one(t, &zeros_around(start, at, "1}", at + 2), &requestor);
+        }
+    }
+    for c in ["é", "€", "😀"] {
+        for length in 0..=300 {
+            let all: Vec<u8> = c.bytes().cycle().take(length).collect();
+            one(t, &all, &requestor);
+        }
+        for at in 240..=260 {
+            for length in at + 1..=270 {
+                one(t, &zeros_around("N7:0{", at, c, length), &requestor);
+            }
+        }
     }
 }
