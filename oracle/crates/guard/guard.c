@@ -108,18 +108,37 @@ static size_t length_of(size_t most) { return one_in(4) ? below(most + 1) : belo
 static const uint8_t codes[] = {0x82, 0x83, 0x84, 0x85, 0x86, 0x87, 0x88, 0x89, 0x8A, 0x8D, 0x8E, 0x91, 0x92, 0x93, 0x94};
 static uint8_t code_of(void) { return one_in(8) ? next() >> 32 : codes[below(sizeof codes)]; }
 
+/* Seven characters, then bytes that aren't well-formed UTF-8: cut, too long, surrogates, too large, stray. */
+static const char *const sequences[] = {"\xC4\xB1", "\xC5\xBF", "\xC3\xA9", "\xE2\x82\xAC", "\xEF\xBF\xBF", "\xF0\x9F\x98\x80", "\xF4\x8F\xBF\xBF",
+    "\xC4", "\xE2", "\xE2\x82", "\xF0", "\xF0\x9F", "\xF0\x9F\x98", "\xC0\xAF", "\xE0\x80\x80", "\xED\xA0\x80", "\xF4\x90\x80\x80", "\xF8", "\xFF", "\x80"};
+static const char *sequence(void) { return sequences[below(sizeof sequences / sizeof *sequences)]; }
+
 /* Tags that are mostly right, cut or damaged now and then. */
 static size_t tag_into(char *t) {
-    static const char *forms[] = {"N%u:%u", "N%u:%u/%u", "T4:%uPRE", "C5:%u.ACC", "B3/%u", "B3:%u/%u", "F8:%u{%u}", "ST9:%u", "A10:%u", "I:%u.%u/%u", "O:%u/%u", "S:%u/%u", "L20:%u{%u}", "R6:%uEN", "X%u:%u"};
-    size_t n = sprintf(t, forms[below(15)], (unsigned)below(300), (unsigned)below(300), (unsigned)below(20));
+    static const char *forms[] = {"N%u:%u", "N%u:%u/%u", "T4:%uPRE", "C5:%u.ACC", "B3/%u", "B3:%u/%u", "F8:%u{%u}", "ST9:%u", "A10:%u", "I:%u.%u/%u", "O:%u/%u", "S:%u/%u", "L20:%u{%u}", "R6:%uEN", "X%u:%u",
+        "\xC4\xB1:%u.%u/%u", "\xC4\xB1%u:%u{%u}", "\xC5\xBF:%u/%u", "\xC5\xBFT9:%u", "T4:%u\xC3\xA9PRE", "C5:%u\xE2\x82\xAC" "ACC", "T4:%u\xF0\x9F\x98\x80" "DN"};
+    size_t n = sprintf(t, forms[below(sizeof forms / sizeof *forms)], (unsigned)below(300), (unsigned)below(300), (unsigned)below(20));
+    if (one_in(8)) {
+        const char *s = sequence();
+        size_t k = strlen(s), at = one_in(3) ? n : below(n + 1);
+        memmove(t + at + k, t + at, n - at);
+        memcpy(t + at, s, k);
+        n += k;
+    }
     if (one_in(12)) n = below(n + 1);
     if (one_in(12) && n) t[below(n)] = next() >> 32;
     return n;
 }
+/* One byte, character or sequence over and over, around 255 bytes: the last may be cut. */
+static size_t long_into(char *t) {
+    const char *s = one_in(4) ? "N" : one_in(4) ? sequence() : sequences[below(7)];
+    size_t n = one_in(4) ? 300 : 250 + below(12), k = strlen(s);
+    for (size_t i = 0; i < n; i++) t[i] = s[i % k];
+    return n;
+}
 static const uint8_t *lend_tag(size_t *n) {
     char t[300];
-    *n = tag_into(t);
-    if (one_in(50)) *n = 300, memset(t, 'N', 300);
+    *n = one_in(20) ? long_into(t) : tag_into(t);
     return memcpy(lend(*n), t, *n);
 }
 
@@ -373,6 +392,8 @@ static void lines(void) {
         n += tag_into(t + n);
         t[n++] = 10;
     }
+    if (one_in(3)) n = below(n + 1);
+    if (one_in(50)) n = long_into(t);
     const uint8_t *piece = memcpy(lend(n), t, n);
     uint8_t *out = lend_bytes(one_in(10) ? m = below(64) : m);
     sealed();
