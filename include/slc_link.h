@@ -43,7 +43,7 @@ enum {
 
 /* The questions, each with its number as a name. In full, and in the order in which each call asks them: docs/QUESTIONS.md. */
 enum {
-    SLC_REFUSED_TAG_BYTES = 1,           /* Is the tag at most 255 bytes, each below 128? */
+    SLC_REFUSED_TAG_BYTES = 1,           /* Is the tag at most 255 bytes and well-formed UTF-8? */
     SLC_REFUSED_TAG = 2,                 /* Does the tag spell an address? */
     SLC_REFUSED_BIT_COUNT = 3,           /* Is the tag free of a bit together with a count above 1? */
     SLC_REFUSED_VALUE = 4,               /* Does the value suit the address? */
@@ -136,7 +136,8 @@ uint8_t slc_encode_element(uint8_t code, slc_value value, const uint8_t *text, s
 /* Reads the element that these bytes begin with; for text, `text` needs SLC_TEXT_ROOM bytes. Refused: 19, 20, 24. */
 slc_element slc_decode_element(uint8_t code, const uint8_t *element, size_t element_len, uint8_t *text, size_t text_len);
 
-/* ---- addresses and requests ---- */
+/* ---- addresses and requests: a tag is UTF-8 of at most 255 bytes. Where a file letter is read, U+0131 (dotless i) is an I and U+017F (long s) an S.
+   The separator between the element and the name of a timer or counter address is one character that isn't a newline ---- */
 
 typedef struct {
     uint8_t refused;
@@ -148,7 +149,7 @@ typedef struct {
     uint16_t sub_element;
     uint8_t bit;                /* 1: the tag names a bit, or a field of T or C */
     uint64_t element_count;
-    size_t kept;                /* bytes of the tag that are kept: those before {, or all of C, of T, and of S with a bit */
+    size_t kept;                /* how many bytes of the tag are kept: those before {, or all of C, of T, and of S with a bit */
 } slc_address;
 
 typedef struct { uint8_t vid[2]; uint8_t vsn[4]; } slc_requestor;       /* who asks: vendor and serial bytes, as sent */

@@ -34,6 +34,11 @@ static uint8_t read_request(const char *tag, size_t room)
     return slc_read_request(bytes(tag), strlen(tag), slc_default_requestor(), 0, out, room).address.refused;
 }
 
+static uint8_t parsed(const char *tag)
+{
+    return slc_parse_tag(bytes(tag), strlen(tag)).refused;
+}
+
 static uint8_t write_request(const char *tag, uint8_t kind, size_t length, size_t room)
 {
     return slc_write_request(bytes(tag), strlen(tag), kind, zeros, length, slc_default_requestor(), 0, out, room).address.refused;
@@ -171,6 +176,84 @@ static void refusals(void)
     same("REPLY_LENGTH", slc_parse_file_directory_size(zeros, 62, slc_sys0_info(zeros, 0)).refused, SLC_REFUSED_REPLY_LENGTH);
 }
 
+/* ---- tags of UTF-8 */
+
+/* the tag has this address, else that of the plain one, and reads what that does */
+static void spells(const char *tag, const char *plain, uint8_t code, uint16_t file, uint16_t element, uint16_t sub_element, size_t kept)
+{
+    uint8_t expected[SLC_REQUEST_ROOM];
+    slc_address a = slc_parse_tag(bytes(tag), strlen(tag)), b = slc_parse_tag(bytes(plain), strlen(plain));
+    slc_request one = slc_read_request(bytes(tag), strlen(tag), slc_default_requestor(), 5, out, SLC_REQUEST_ROOM);
+    slc_request two = slc_read_request(bytes(plain), strlen(plain), slc_default_requestor(), 5, expected, sizeof expected);
+    same(tag, a.refused, 0);
+    same(tag, a.code == code && a.file_number == file && a.element_number == element && a.sub_element == sub_element, 1);
+    same("how many bytes are kept", a.kept, kept);
+    same(plain, a.has_position == b.has_position && a.position == b.position && a.has_sub_element == b.has_sub_element && a.bit == b.bit
+         && a.element_count == b.element_count, 1);
+    same("the message", !two.address.refused && one.length == two.length && !memcmp(out, expected, two.length), 1);
+}
+
+static void letters_and_separators(void)
+{
+    /* the first and the last character of two, three and four bytes, and the neighbours of the surrogates */
+    static const char *const separators[] = {"\xC2\x80", "\xDF\xBF", "\xE0\xA0\x80", "\xED\x9F\xBF", "\xEE\x80\x80", "\xEF\xBF\xBF",
+                                             "\xF0\x90\x80\x80", "\xF4\x8F\xBF\xBF"};
+    char tag[16];
+    size_t i;
+    spells("\xC4\xB1:0", "I:0", SLC_TYPE_I, 1, 0, 0, 4);
+    spells("\xC4\xB1" "7:0", "I7:0", SLC_TYPE_I, 1, 0, 0, 5);
+    spells("\xC5\xBF:4", "S:4", SLC_TYPE_S, 2, 4, 0, 4);
+    spells("\xC5\xBFt9:0", "ST9:0", SLC_TYPE_ST, 9, 0, 0, 6);
+    spells("T4:1\xC3\xA9PRE", "T4:1.PRE", SLC_TYPE_T, 4, 1, 1, 9);
+    for (i = 0; i < sizeof separators / sizeof *separators; i++) {
+        sprintf(tag, "T4:1%sPRE", separators[i]);
+        spells(tag, "T4:1.PRE", SLC_TYPE_T, 4, 1, 1, 7 + strlen(separators[i]));
+        sprintf(tag, "T4:1%s%sPRE", separators[i], separators[i]);
+        same("two characters", parsed(tag), SLC_REFUSED_TAG);
+    }
+    same("a newline", parsed("T4:1\nPRE"), SLC_REFUSED_TAG);
+    same("a dotless i as a digit", parsed("N7:\xC4\xB1"), SLC_REFUSED_TAG);
+    same("a capital I with a dot", parsed("\xC4\xB0:0"), SLC_REFUSED_TAG);
+    same("a byte order mark", parsed("\xEF\xBB\xBFN7:0"), SLC_REFUSED_TAG);
+}
+
+static void ill_formed_tags(void)
+{
+    /* no beginning of a character; one that is cut; more bytes than the character needs; surrogates; above U+10FFFF */
+    static const char *const parts[] = {"\x80", "\xFF", "\xC4", "\xE2\x82", "\xF0\x9F\x98", "\xC0\xAF", "\xE0\x9F\xBF", "\xF0\x8F\xBF\xBF",
+                                        "\xED\xA0\x80", "\xED\xBF\xBF", "\xF4\x90\x80\x80", "\xF5\x80\x80\x80"};
+    char tag[16];
+    size_t i;
+    for (i = 0; i < sizeof parts / sizeof *parts; i++) {
+        same("alone", parsed(parts[i]), SLC_REFUSED_TAG_BYTES);
+        sprintf(tag, "N7:0%s", parts[i]);
+        same("at the end", parsed(tag), SLC_REFUSED_TAG_BYTES);
+        sprintf(tag, "T4:1%sPRE", parts[i]);
+        same("as a separator", parsed(tag), SLC_REFUSED_TAG_BYTES);
+        same("a read of it", read_request(tag, SLC_REQUEST_ROOM), SLC_REFUSED_TAG_BYTES);
+        same("a write to it", write_request(tag, SLC_RAW, 4, SLC_WRITE_ROOM), SLC_REFUSED_TAG_BYTES);
+    }
+}
+
+/* what counts is bytes */
+static void lengths(void)
+{
+    char tag[257];
+    slc_fed fed;
+    /* 255 of them are 254 characters, 256 are 255 */
+    memset(tag, '0', sizeof tag);
+    memcpy(tag, "\xC4\xB1:0{", 5);
+    memcpy(tag + 253, "1}", 3);
+    spells(tag, "I:0", SLC_TYPE_I, 1, 0, 0, 4);
+    memcpy(tag + 253, "01}", 4);
+    same("256 bytes", parsed(tag), SLC_REFUSED_TAG_BYTES);
+
+    /* a line that is cut inside a character */
+    fed = slc_tags_feed(slc_line_empty(), bytes("\xC4"), 1, out, SLC_TAG_ROOM);
+    fed = slc_tags_feed(fed.line, bytes("\xB1:0\n"), 4, out, 4 * SLC_TAG_ROOM);
+    same("its answer", fed.used == 47 && !memcmp(out, "4B0220672401070910091019710F000000A20201830000\n", 47), 1);
+}
+
 static void type(uint8_t code, const char *name)
 {
     slc_file_type t = slc_type_of_code(code);
@@ -296,6 +379,9 @@ int main(void)
     rooms();
     most();
     refusals();
+    letters_and_separators();
+    ill_formed_tags();
+    lengths();
     questions();
     types();
     devices();
