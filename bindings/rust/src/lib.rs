@@ -4,14 +4,14 @@
 //! Every call is a proved function of the library `libslc_link.a`; this package lends it slices and turns its answers into enums. A call that
 //! the library refuses is an [`Err`] with the question that was answered with no ([`Refused`]); it changes no lent byte. Output
 //! goes to slices that the caller lends, and what was written is handed back as a part of them. Nothing is allocated but by
-//! [`Processor::new`] and by cloning a [`Processor`].
+//! [`Processor::new`] and by cloning a [`Processor`]. A tag is UTF-8, as text or as bytes; names and all other texts are Latin-1 bytes.
 //!
 //! ```
 //! use slc_link::{read_request, FileType, Processor, Refused, Requestor, Spot, Value, COMMAND_AT, DATA_AT, REPLY_ROOM, REQUEST_ROOM};
 //!
 //! // the message that reads N7:0; its PCCC command begins behind the six bytes of service and path
 //! let mut out = [0; REQUEST_ROOM];
-//! let request = read_request(b"N7:0", Requestor::default(), 0x1234, &mut out)?;
+//! let request = read_request("N7:0", Requestor::default(), 0x1234, &mut out)?;
 //! assert_eq!(request.address.file_type, FileType::N);
 //! let command = &request.message[COMMAND_AT..];
 //!
@@ -23,7 +23,7 @@
 //! assert_eq!(reply[DATA_AT..], [15, 0]);
 //!
 //! // a bit can't be read with a count above 1
-//! let refused = read_request(b"N7:0/3{2}", Requestor::default(), 0, &mut out).unwrap_err();
+//! let refused = read_request("N7:0/3{2}", Requestor::default(), 0, &mut out).unwrap_err();
 //! assert_eq!(refused, Refused::BitCount);
 //! # Ok::<(), Refused>(())
 //! ```

@@ -17,7 +17,7 @@ pub struct Address {
     pub bit: bool,
     /// The count.
     pub element_count: u64,
-    /// Bytes of the tag that are kept: those before `{`, or all of C, of T, and of S with a bit.
+    /// How many bytes of the tag are kept: those before `{`, or all of C, of T, and of S with a bit.
     pub kept: usize,
 }
 
@@ -85,19 +85,39 @@ fn request(built: sys::slc_request, out: &[u8]) -> Result<Request<'_>, Refused> 
     Ok(Request { address: Address::of(built.address)?, message: &out[..built.length] })
 }
 
-/// The address that a tag spells. Refused: 1, 2.
-pub fn parse_tag(tag: &[u8]) -> Result<Address, Refused> {
+/// The address that a tag spells. The tag is UTF-8, as text or as bytes. Where a file letter is read, a dotless ı is an I and a long ſ an S; the
+/// separator of a timer or counter address is one character that isn't a newline. Refused: 1, 2.
+///
+/// ```
+/// use slc_link::{parse_tag, FileType, Refused};
+///
+/// let address = parse_tag("ı:0")?;
+/// assert_eq!((address.file_type, address.kept), (FileType::I, 4));
+/// assert_eq!(parse_tag("T4:1éPRE".as_bytes())?.sub_element, Some(1));
+/// assert_eq!(parse_tag(b"T4:1\xE9PRE"), Err(Refused::TagBytes));
+/// # Ok::<(), Refused>(())
+/// ```
+pub fn parse_tag(tag: impl AsRef<[u8]>) -> Result<Address, Refused> {
+    let tag = tag.as_ref();
     Address::of(unsafe { sys::slc_parse_tag(tag.as_ptr(), tag.len()) })
 }
 
-/// The message that reads what a tag names; `out` needs 27 bytes. Refused: 1, 2, 3, 5, 6.
-pub fn read_request<'o>(tag: &[u8], q: Requestor, sequence: u16, out: &'o mut [u8]) -> Result<Request<'o>, Refused> {
+/// The message that reads what a tag names, which is UTF-8, as text or as bytes; `out` needs 27 bytes. Refused: 1, 2, 3, 5, 6.
+pub fn read_request<'o>(tag: impl AsRef<[u8]>, q: Requestor, sequence: u16, out: &'o mut [u8]) -> Result<Request<'o>, Refused> {
+    let tag = tag.as_ref();
     let built = unsafe { sys::slc_read_request(tag.as_ptr(), tag.len(), q.c(), sequence, out.as_mut_ptr(), out.len()) };
     request(built, out)
 }
 
-/// The message that writes to what a tag names; `out` needs 284 bytes. Refused: 1 to 6.
-pub fn write_request<'o>(tag: &[u8], value: WriteValue, q: Requestor, sequence: u16, out: &'o mut [u8]) -> Result<Request<'o>, Refused> {
+/// The message that writes to what a tag names, which is UTF-8, as text or as bytes; `out` needs 284 bytes. Refused: 1 to 6.
+pub fn write_request<'o>(
+    tag: impl AsRef<[u8]>,
+    value: WriteValue,
+    q: Requestor,
+    sequence: u16,
+    out: &'o mut [u8],
+) -> Result<Request<'o>, Refused> {
+    let tag = tag.as_ref();
     let (kind, bytes): (u8, &[u8]) = match value {
         WriteValue::Raw(bytes) => (sys::SLC_RAW, bytes),
         WriteValue::Bool(false) => (sys::SLC_FALSE, &[]),

@@ -1,7 +1,7 @@
 use crate::sys;
 
 /// The program `tags` on slices: a read request in capital hexadecimal for each line of the input, or `refused` and the number, with the
-/// default requester and sequence 0. The input comes in pieces, cut anyhow.
+/// default requester and sequence 0. The input, lines of tags, comes in pieces, cut anyhow, also inside a character.
 ///
 /// ```
 /// let mut tags = slc_link::Tags::new();

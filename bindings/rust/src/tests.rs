@@ -6,12 +6,12 @@ fn requestor() -> Requestor {
 
 fn read(tag: &str) -> Result<Vec<u8>, Refused> {
     let mut out = [0; REQUEST_ROOM];
-    Ok(read_request(tag.as_bytes(), requestor(), 0, &mut out)?.message.to_vec())
+    Ok(read_request(tag, requestor(), 0, &mut out)?.message.to_vec())
 }
 
 fn write(tag: &str, value: WriteValue) -> Result<Vec<u8>, Refused> {
     let mut out = [0; WRITE_ROOM];
-    Ok(write_request(tag.as_bytes(), value, requestor(), 0, &mut out)?.message.to_vec())
+    Ok(write_request(tag, value, requestor(), 0, &mut out)?.message.to_vec())
 }
 
 /// A command from the function byte on, behind the default requester's id, 0F 00 and sequence 0.
@@ -47,6 +47,7 @@ fn refusals_have_numbers_and_questions() {
     assert_eq!([0, 27, 255].map(Refused::try_from), [0, 27, 255].map(|n| Err(UnknownNumber(n))));
     assert_eq!(UnknownNumber(27).to_string(), "no refusal has the number 27");
     assert_eq!(Refused::Unsound.question().as_str(), "Is the processor sound?");
+    assert_eq!(Refused::TagBytes.question().as_str(), "Is the tag at most 255 bytes and well-formed UTF-8?");
     assert!(Refused::ALL.iter().all(|r| r.question().as_str().ends_with('?')));
     assert_eq!(
         format!("{:?} {:>6}", Refused::Number.question(), Refused::RowSize.question()),
@@ -187,8 +188,99 @@ fn w1_to_w6() {
     assert_eq!(parse_tag(b"N7:0{99999999999999999999}").unwrap().element_count, u64::MAX);
     let refused =
         ["N7:0{128}", "ST9:0{3}", "N7:0/3{2}", "", "X7:0", &"N".repeat(256), "N7:\u{e9}"].map(|tag| read(tag).unwrap_err().number());
-    assert_eq!(refused, [5, 2, 3, 2, 2, 1, 1]);
+    assert_eq!(refused, [5, 2, 3, 2, 2, 1, 2]);
     assert_eq!(read_request(b"N7:0", requestor(), 0, &mut out[..26]), Err(Refused::OutputRoom));
+}
+
+/// The address that a tag spells, with the length of what is kept apart.
+fn spelled(tag: &str) -> (Address, usize) {
+    let address = parse_tag(tag).unwrap();
+    (Address { kept: 0, ..address }, address.kept)
+}
+
+#[test]
+fn letters_and_separators_past_ascii() {
+    for (tag, plain, kept) in [
+        ("ı:0", "I:0", 4),
+        ("ı7:0", "I7:0", 5),
+        ("ı:3.300/5", "I:3.300/5", 10),
+        ("ſ:4{2}", "S:4{2}", 4),
+        ("ſt9:0", "ST9:0", 6),
+        ("T4:1éPRE", "T4:1.PRE", 9),
+        ("c5:12\u{1F600}dn", "C5:12.DN", 11),
+    ] {
+        assert_eq!(spelled(tag), (spelled(plain).0, kept), "{tag}");
+        assert_eq!(read(tag), read(plain), "{tag}");
+        assert!(read(tag).is_ok(), "{tag}");
+    }
+    let i = spelled("ı:0").0;
+    assert_eq!((i.file_type, i.file_number, i.element_number, i.position, i.sub_element), (FileType::I, 1, 0, Some(0), Some(0)));
+    let st = spelled("ſt9:0").0;
+    assert_eq!((st.file_type, st.file_number, st.element_number, st.position, st.sub_element), (FileType::ST, 9, 0, None, None));
+    let t = spelled("T4:1éPRE").0;
+    assert_eq!((t.file_type, t.file_number, t.element_number, t.position, t.sub_element), (FileType::T, 4, 1, None, Some(1)));
+    assert_eq!(read("ı:0").unwrap()[17..], [0xA2, 2, 1, 0x83, 0, 0]);
+
+    // the first and the last character of each length, and the neighbours of the surrogates
+    for separator in
+        ["\0", "\r", "\u{7F}", "\u{80}", "\u{7FF}", "\u{800}", "\u{D7FF}", "\u{E000}", "\u{FFFF}", "\u{10000}", "\u{10FFFF}", "\u{2028}"]
+    {
+        assert_eq!(spelled(&format!("T4:1{separator}PRE")), (t, 7 + separator.len()));
+    }
+    // a newline, none, two characters (é as e and an accent)
+    for separator in ["\n", "", "éé", ".é", "e\u{301}"] {
+        assert_eq!(parse_tag(format!("T4:1{separator}PRE")), Err(Refused::Tag));
+    }
+    // a capital I with a dot; a ligature of s and t; a byte order mark; a wide letter and sign; an Arabic digit
+    let others = ["\u{130}:0", "\u{FB06}9:0", "\u{FEFF}N7:0", "\u{FF2E}7:0", "N7\u{FF1A}0", "N\u{667}:0"];
+    for tag in ["N7:ı", "Nı:0", "N7:é", "T4:1.PRÉ", "sſ:0", "ı"].into_iter().chain(others) {
+        assert_eq!(parse_tag(tag), Err(Refused::Tag), "{tag}");
+    }
+}
+
+#[test]
+fn tags_that_are_not_well_formed() {
+    // no beginning of a character, or one that is cut; more bytes than the character needs; surrogates, and above U+10FFFF
+    let cut: [&[u8]; 5] = [b"\x80", b"\xFF", b"\xC4", b"\xE2\x82", b"\xF0\x9F\x98"];
+    let too_long: [&[u8]; 3] = [b"\xC0\xAF", b"\xE0\x9F\xBF", b"\xF0\x8F\xBF\xBF"];
+    let no_character: [&[u8]; 4] = [b"\xED\xA0\x80", b"\xED\xBF\xBF", b"\xF4\x90\x80\x80", b"\xF5\x80\x80\x80"];
+    for bad in [&cut[..], &too_long, &no_character].concat() {
+        assert!(std::str::from_utf8(bad).is_err());
+        // alone, as a separator, at the end
+        for tag in [bad.to_vec(), [b"T4:1", bad, b"PRE"].concat(), [b"N7:0", bad].concat()] {
+            assert_eq!(parse_tag(&tag), Err(Refused::TagBytes), "{tag:02X?}");
+            assert_eq!(read_request(&tag, requestor(), 0, &mut [0; REQUEST_ROOM]), Err(Refused::TagBytes));
+            assert_eq!(write_request(&tag, WriteValue::Raw(&[1, 2]), requestor(), 0, &mut [0; WRITE_ROOM]), Err(Refused::TagBytes));
+        }
+    }
+    // bytes count, not characters
+    let counted = |zeros| format!("ı:0{{{}1}}", "0".repeat(zeros));
+    assert_eq!((counted(248).len(), counted(249).chars().count()), (255, 255));
+    assert_eq!(spelled(&counted(248)), (spelled("I:0").0, 4));
+    assert_eq!(parse_tag(counted(249)), Err(Refused::TagBytes));
+}
+
+#[test]
+fn a_tag_is_text_or_bytes() {
+    let (text, bytes) = (String::from("T4:1éPRE"), "T4:1éPRE".as_bytes().to_vec());
+    let address = parse_tag("T4:1éPRE").unwrap();
+    assert_eq!([parse_tag(&text), parse_tag(&bytes), parse_tag(&bytes[..]), parse_tag(b"T4:1\xC3\xA9PRE")], [Ok(address); 4]);
+    assert_eq!(parse_tag(text.chars().map(|c| c as u8).collect::<Vec<u8>>()), Err(Refused::TagBytes));
+
+    // a request borrows the output alone; its text is Latin-1
+    let mut out = [0; WRITE_ROOM];
+    let built = {
+        let tag = String::from("ſt9:0");
+        write_request(&tag, WriteValue::Text(b"\xE9"), requestor(), 0, &mut out).unwrap()
+    };
+    assert_eq!(built.message[17..29], [0xAB, 84, 9, 0x8D, 0, 0, 0xFF, 0xFF, 1, 0, 0, 0xE9]);
+    assert_eq!(built.message, write("ST9:0", WriteValue::Text(b"\xE9")).unwrap());
+    let mut out = [0; REQUEST_ROOM];
+    let built = {
+        let tag = "ſt9:0".as_bytes().to_vec();
+        read_request(&tag, requestor(), 0, &mut out).unwrap()
+    };
+    assert_eq!(built.message[17..], [0xA2, 84, 9, 0x8D, 0, 0]);
 }
 
 #[test]
@@ -413,7 +505,7 @@ fn elements_of_a_processor() {
 
 #[test]
 fn tags_cut_anyhow() {
-    let input = b"N7:0\nN7:0/3{2}\n\nT4:0.PRE\r\nB3/4095";
+    let input = "N7:0\nN7:0/3{2}\n\nT4:0.PRE\r\nı:0\nT4:1éPRE\nN7:ı\nB3/4095".as_bytes();
     let whole = |size: usize| {
         let (mut tags, mut out, mut at, mut answers) = (Tags::new(), [0; 5 * TAG_ROOM], 0, Vec::new());
         while at < input.len() {
@@ -425,8 +517,9 @@ fn tags_cut_anyhow() {
         String::from_utf8(answers).unwrap()
     };
     let expected = "4B0220672401070910091019710F000000A20207890000\nrefused 3\nrefused 2\nrefused 2\n\
+                    4B0220672401070910091019710F000000A20201830000\n4B0220672401070910091019710F000000A20604860100\nrefused 2\n\
                     4B0220672401070910091019710F000000A2020385FFFF0000\n";
-    for size in 1..40 {
+    for size in 1..=input.len() {
         assert_eq!(whole(size), expected, "in pieces of {size}");
     }
     assert_eq!(Tags::new().feed(input, &mut [0; 63]), (0, &b""[..]));

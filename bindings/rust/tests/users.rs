@@ -38,8 +38,12 @@ pub fn refused(r: Refused) -> bool {
     }
 }
 
+fn refuses(tag: impl AsRef<[u8]>) -> bool {
+    read_request(tag, Requestor::default(), 0, &mut [0; REQUEST_ROOM]) == Err(Refused::BitCount)
+}
+
 fn main() {
-    println!("{:?}", read_request(b"N7:0/3{2}", Requestor::default(), 0, &mut [0; REQUEST_ROOM]) == Err(Refused::BitCount));
+    println!("{:?}", refuses("N7:0/3{2}") && refuses(b"N7:0/3{2}"));
 }
 "#;
 
