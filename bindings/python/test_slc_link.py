@@ -30,7 +30,7 @@ def command(function):
 
 def load_tests(loader, tests, pattern):
     tests.addTests(doctest.DocTestSuite(slc_link))
-    tests.addTests(doctest.DocFileSuite(str(Path(__file__).resolve().parents[2] / "README.md"), module_relative=False))
+    tests.addTests(doctest.DocFileSuite(str(Path(__file__).resolve().parents[2] / "README.md"), module_relative=False, encoding="utf-8"))
     return tests
 
 
@@ -54,6 +54,7 @@ class Numbers(Refusing):
         self.assertEqual(str(Refused(27)), "refused 27")
         self.assertEqual([str(Refused(n)) for n in (-1, 0, 256)], ["refused -1", "refused 0", "refused 256"])
         self.assertEqual(question_of(Refusal.UNSOUND), "Is the processor sound?")
+        self.assertEqual(question_of(Refusal.TAG_BYTES), "Is the tag at most 255 bytes and well-formed UTF-8?")
         self.assertEqual([n for n in range(256) if question_of(n)], list(Refusal))
         self.refused(6, question_of, 1, room=95)
 
@@ -197,7 +198,6 @@ class Requests(Refusing):
         self.assertEqual(parse_tag("i:3.300/5{2}"), Address(Code.I, 1, 3, 300, 5, True, 2, 9))
         self.assertEqual(parse_tag("N7:0{" + 30 * "9" + "}").element_count, 2**64 - 1)
         self.refused(1, parse_tag, 256 * "N")
-        self.refused(1, parse_tag, "N7:\xE9")
         self.refused(2, parse_tag, "")
 
     def test_reads(self):
@@ -230,6 +230,89 @@ class Requests(Refusing):
         self.refused(26, file_directory_read_request, 3, 65536, 80, room=1)
         self.refused(6, file_directory_read_request, 3, 65535, 80, room=1)
         self.assertEqual(file_directory_read_request(3, 0, 80)[17:].hex(), "a150000300")
+
+
+class TagsInUtf8(Refusing):
+    # a tag, the same in ASCII, and the address
+    SAME = (("ı:0", "I:0", Address(Code.I, 1, 0, 0, 0, False, 1, 4)),
+            ("ı7:0", "I7:0", Address(Code.I, 1, 0, 0, 0, False, 1, 5)),
+            ("ı:3.300/5{1}", "I:3.300/5", Address(Code.I, 1, 3, 300, 5, True, 1, 10)),
+            ("ſ:4", "S:4", Address(Code.S, 2, 4, None, None, False, 1, 4)),
+            ("ſt9:0", "ST9:0", Address(Code.ST, 9, 0, None, None, False, 1, 6)),
+            ("T4:1éPRE", "T4:1.PRE", Address(Code.T, 4, 1, None, 1, True, 1, 9)),
+            ("c5:12\U0001F600dn", "C5:12.DN", Address(Code.C, 5, 12, None, 13, True, 1, 11)))
+    # no beginning of a character; one that is cut; more bytes than the character needs; surrogates; above U+10FFFF
+    ILL_FORMED = ("80", "BF", "FF", "C4", "E2 82", "F0 9F 98", "C0 AF", "C1 BF", "E0 9F BF", "F0 8F BF BF", "ED A0 80", "ED BF BF", "F4 90 80 80", "F5 80 80 80",
+                  "F8 88 80 80 80")
+
+    def test_addresses(self):
+        for tag, plain, address in self.SAME:
+            self.assertEqual(parse_tag(tag), address, tag)
+            self.assertEqual(parse_tag(plain)[:-1], address[:-1], plain)
+
+    def test_reads(self):
+        for tag, plain, address in self.SAME:
+            self.assertEqual(read_request(tag, sequence=5), (address, read_request(plain, sequence=5).message), tag)
+        self.assertEqual([read_request(tag).message[17:].hex() for tag in ("ı:0", "ſt9:0", "T4:1éPRE")], ["a20201830000", "a254098d0000", "a20604860100"])
+
+    def test_writes(self):
+        # the tag is UTF-8, the text Latin-1
+        self.assertEqual(write_request("ſt9:0", Text("é")).message[17:29].hex(), "ab54098d0000" "ffff" "0100" "00e9")
+        self.assertEqual(write_request("ſt9:0", Text("é")).message, write_request("ST9:0", Text(b"\xE9")).message)
+        self.assertEqual(write_request("ı:0/3", True).message, write_request("I:0/3", True).message)
+        self.assertEqual(write_request("T4:1éDN", False).message, write_request("T4:1.DN", False).message)
+        self.refused(1, write_request, b"\xFD:0/3", True)
+
+    def test_str_and_bytes(self):
+        for tag, _, address in self.SAME:
+            for given in (tag.encode(), bytearray(tag.encode()), memoryview(tag.encode())):
+                self.assertEqual(parse_tag(given), address, tag)
+        # in Latin-1, and in Latin-5, which is for Turkish
+        self.refused(1, parse_tag, "T4:1éPRE".encode("latin-1"))
+        self.refused(1, parse_tag, "ı:0".encode("iso8859-9"))
+
+    def test_ill_formed(self):
+        for bad in map(bytes.fromhex, self.ILL_FORMED):
+            # alone, as a separator, at the end
+            for tag in (bad, b"T4:1" + bad + b"PRE", b"N7:0" + bad):
+                for call in (parse_tag, read_request, lambda tag: write_request(tag, b"12")):
+                    self.refused(1, call, tag)
+
+    def test_a_lone_surrogate(self):
+        # the last: the bytes of ı, read as surrogateescape reads bytes that it doesn't know
+        for tag in ("\udc80", "T4:1\udc80PRE", "T4:1\ud800PRE", "T4:1\ud83d\ude00PRE", "\udcc4\udcb1:0"):
+            for call in (parse_tag, read_request, lambda tag: write_request(tag, b"12")):
+                self.refused(1, call, tag)
+
+    def test_separators(self):
+        # the first and the last character of each length, and the neighbours of the surrogates
+        for separator in ("\0", "\r", "\x7F", "\x80", "\u07FF", "\u0800", "\uD7FF", "\uE000", "\uFFFF", "\U00010000", "\U0010FFFF", "\u0085", "\u2028"):
+            self.assertEqual(parse_tag(f"T4:1{separator}PRE"), Address(Code.T, 4, 1, None, 1, True, 1, 7 + len(separator.encode())))
+        # a newline, none, two characters (é as e and an accent)
+        for separator in ("\n", "", "éé", ".é", "e\u0301"):
+            self.refused(2, parse_tag, f"T4:1{separator}PRE")
+
+    def test_what_is_no_file_letter_name_digit_or_sign(self):
+        # a capital I with a dot; a ligature of s and t; a byte order mark; wide, Arabic and raised ones; a wide blank
+        for tag in ("\u0130:0", "é:0", "ßT9:0", "\uFB06" "9:0", "ſſ9:0", "sſ:0", "\uFEFFN7:0", "\uFF2E7:0", "N7:ı", "N7:0/ı", "Nı:0", "N7\uFF1A0", "N\u0667:0",
+                    "N\u00B2:0", "N7:0{\uFF11}", "N7:0\u00A0", "T4:1.PRÉ", "ı", "ſ", "é"):
+            self.refused(2, parse_tag, tag)
+        # `Names .. as before`: the I of R's bit IN
+        self.assertEqual(field_of(Code.R, "in"), ("bit", 9))
+        self.assertIsNone(field_of(Code.R, "ın".encode()))
+        self.assertIsNone(type_of_name("ı".encode()))
+
+    def test_the_length_counts_bytes(self):
+        self.assertEqual(parse_tag("ı:0{" + 248 * "0" + "1}"), Address(Code.I, 1, 0, 0, 0, False, 1, 4))
+        # 255 characters, 256 bytes
+        self.refused(1, parse_tag, "ı:0{" + 249 * "0" + "1}")
+        self.refused(1, parse_tag, 254 * "N" + "é")
+        self.refused(2, parse_tag, 253 * "N" + "é")
+
+    def test_names_and_texts_stay_latin_1(self):
+        self.assertEqual((Text("é"), encode_ascii("é"), encode_string("é")[:4]), ((b"\xE9",), b" \xE9", b"\1\0\0\xE9"))
+        for call in (Text, encode_ascii, type_of_name, sys0_info, lambda text: Processor(type_text=text), lambda text: field_of(Code.R, text)):
+            self.assertRaises(UnicodeEncodeError, call, "ı")
 
 
 class Replies(Refusing):
@@ -546,6 +629,18 @@ class TheProgramTags(unittest.TestCase):
         for size in range(1, len(text) + 1):
             said = b"".join(tags.feed(text[at:at + size]) for at in range(0, len(text), size)) + tags.finish()
             self.assertEqual(said, answers)
+
+    def test_utf_8(self):
+        text = "ı:0\nT4:1éPRE\nN7:ı\nT4:1\U0001F600PRE\n"
+        timer = b"4B0220672401070910091019710F000000A20604860100\n"
+        answers = b"4B0220672401070910091019710F000000A20201830000\n" + timer + b"refused 2\n" + timer
+        # cut between characters, and inside them
+        for whole in (text, text.encode()):
+            for size in range(1, len(whole) + 1):
+                tags = Tags()
+                self.assertEqual(b"".join(tags.feed(whole[at:at + size]) for at in range(0, len(whole), size)), answers)
+        for ill_formed in ("T4:1\udce9PRE\n", b"T4:1\xE9PRE\n"):
+            self.assertEqual(Tags().feed(ill_formed), b"refused 1\n")
 
 
 if __name__ == "__main__":

@@ -13,9 +13,10 @@ refuses raises Refused with the number of the question that was answered with no
     Traceback (most recent call last):
     slc_link.Refused: refused 3: Is the tag free of a bit together with a count above 1? No.
 
-Tags, names and texts are bytes, or str of Latin-1. A number is an int, or what has __index__; it is never cut: 1.9, "5" and True raise TypeError, one
-that its parameter can't have OutOfRange, which is a ValueError and an OverflowError. `room` is the size of the output that a call is lent; each has a
-default that is enough. The library is the file SLC_LINK_SO, or target/sharedlib/libslc_link.so of this repository (built by `./slc lib python`).
+A tag is UTF-8, as bytes or as str; a str with a lone surrogate, which UTF-8 can't have, is refused with 1. Names and texts are Latin-1, as bytes or
+as str. A number is an int, or what has __index__; it is never cut: 1.9, "5" and True raise TypeError, one that its parameter can't have OutOfRange,
+which is a ValueError and an OverflowError. `room` is the size of the output that a call is lent; each has a default that is enough. The library is the
+file SLC_LINK_SO, or target/sharedlib/libslc_link.so of this repository (built by `./slc lib python`).
 """
 import struct
 import threading
@@ -48,6 +49,8 @@ MOST_FILES, MOST_DATA = 256, 65535
 COMMAND_AT, DATA_AT = 6, 11
 
 Bytes = Union[bytes, bytearray, memoryview]
+# a str is encoded as UTF-8 for a tag, as Latin-1 for all else
+Tag = Union[str, Bytes]
 Latin1 = Union[str, Bytes]
 
 # ---- refusals
@@ -109,6 +112,11 @@ def _test(refused: int) -> None:
 
 def _bytes(text: Latin1) -> bytes:
     return text.encode("latin-1") if isinstance(text, str) else bytes(memoryview(text))
+
+
+def _tag(tag: Tag) -> bytes:
+    """The bytes of a tag, or of lines of tags. A lone surrogate becomes three bytes that aren't well-formed: the library refuses it."""
+    return tag.encode("utf-8", "surrogatepass") if isinstance(tag, str) else bytes(memoryview(tag))
 
 
 def _written(name: str, *values: Any, room: SupportsIndex) -> bytes:
@@ -340,8 +348,8 @@ def decode_element(code: SupportsIndex, element: Latin1, room: SupportsIndex = T
 
 
 class Address(NamedTuple):
-    """The address that a tag spells. `bit` is true where the tag names a bit, or a field of T or C; `kept` counts
-    the bytes of the tag that are kept: those before `{`, or all of C, of T, and of S with a bit."""
+    """The address that a tag spells. `bit` is true where the tag names a bit, or a field of T or C; `kept` counts the bytes of the tag that are kept,
+    not the characters: those before `{`, or all of C, of T, and of S with a bit."""
     code: FileCode
     file_number: int
     element_number: int
@@ -394,9 +402,10 @@ def _request(name: str, *values: Any, room: SupportsIndex) -> Request:
     return Request(_address(built.address), bytes(out[:built.length]))
 
 
-def parse_tag(tag: Latin1) -> Address:
-    """The address that a tag spells. Refused: 1, 2."""
-    return _address(_c.call("slc_parse_tag", _bytes(tag)))
+def parse_tag(tag: Tag) -> Address:
+    """The address that a tag spells. Where a file letter is read, a dotless ı is an I and a long ſ an S; the separator of a timer or counter
+    address is one character that isn't a newline. Refused: 1, 2."""
+    return _address(_c.call("slc_parse_tag", _tag(tag)))
 
 
 def default_requestor() -> Requestor:
@@ -405,12 +414,12 @@ def default_requestor() -> Requestor:
     return Requestor(bytes(q.vid), bytes(q.vsn))
 
 
-def read_request(tag: Latin1, requestor: Optional[Vendor] = None, sequence: SupportsIndex = 0, room: SupportsIndex = REQUEST_ROOM) -> Request:
+def read_request(tag: Tag, requestor: Optional[Vendor] = None, sequence: SupportsIndex = 0, room: SupportsIndex = REQUEST_ROOM) -> Request:
     """The message that reads what a tag names. Refused: 1, 2, 3, 5, 6."""
-    return _request("slc_read_request", _bytes(tag), _requestor(requestor), sequence, room=room)
+    return _request("slc_read_request", _tag(tag), _requestor(requestor), sequence, room=room)
 
 
-def write_request(tag: Latin1, value: Union[Bytes, bool, Text], requestor: Optional[Vendor] = None, sequence: SupportsIndex = 0,
+def write_request(tag: Tag, value: Union[Bytes, bool, Text], requestor: Optional[Vendor] = None, sequence: SupportsIndex = 0,
                   room: SupportsIndex = WRITE_ROOM) -> Request:
     """The message that writes to what a tag names: bytes (mask and data, as they are), True, False, or a Text. Refused: 1 to 6."""
     if isinstance(value, bool):
@@ -419,7 +428,7 @@ def write_request(tag: Latin1, value: Union[Bytes, bool, Text], requestor: Optio
         kind, data = _c.SLC_LATIN1, value.text
     else:
         kind, data = _c.SLC_RAW, bytes(memoryview(value))
-    return _request("slc_write_request", _bytes(tag), kind, data, _requestor(requestor), sequence, room=room)
+    return _request("slc_write_request", _tag(tag), kind, data, _requestor(requestor), sequence, room=room)
 
 
 def processor_type_request(requestor: Optional[Vendor] = None, sequence: SupportsIndex = 0, room: SupportsIndex = REQUEST_ROOM) -> bytes:
@@ -649,14 +658,14 @@ class Processor:
 
 class Tags:
     """The program `tags`: a read request in capital hexadecimal for each line of the input, or `refused` and the number, with the default requester
-    and sequence 0. The input comes in pieces, cut anyhow."""
+    and sequence 0. The input, lines of tags, comes in pieces: bytes cut anyhow, also inside a character, or str."""
 
     def __init__(self) -> None:
         self._line = _c.call("slc_line_empty")
 
-    def feed(self, piece: Latin1) -> bytes:
+    def feed(self, piece: Tag) -> bytes:
         """The answers to the lines that end in a piece of the input."""
-        piece = _bytes(piece)
+        piece = _tag(piece)
         return b"".join(self._feed(piece[at:at + 1024]) for at in range(0, len(piece), 1024))
 
     def _feed(self, piece: bytes) -> bytes:
