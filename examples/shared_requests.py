@@ -1,7 +1,7 @@
 """Which addresses of a list share one read request: a capture can't tell these apart.
 
-Takes addresses, one to a line. Prints each request from its function byte on (in the 17 bytes in front only requester and sequence number vary), what it reads,
-and under it the addresses that give it. After `./slc lib python`:
+Takes addresses in UTF-8, one to a line. Prints each request from its function byte on (in the 17 bytes in front only requester and sequence number vary), what it
+reads, and under it the addresses that give it. After `./slc lib python`:
 
     PYTHONPATH=bindings/python python3 examples/shared_requests.py [FILE]
 
@@ -14,6 +14,7 @@ Where the list or the library can't be read it is 2.
 import argparse
 import signal
 import sys
+from io import TextIOWrapper
 from pathlib import Path
 
 from slc_link import Address, Refused, read_request
@@ -23,8 +24,9 @@ FUNCTION_AT = 17
 
 
 def shown(tag: bytes) -> str:
-    """A tag as a text of one line: backslashes, control characters and bytes above 127 escaped. The separator of a timer or counter may be such a character."""
-    return tag.decode("latin-1").encode("unicode_escape").decode("ascii")
+    """A tag as a text of one line, with escapes for backslashes, for what can't be printed, as the separator of a timer or counter may be, and for bytes that
+    aren't UTF-8 (these as \\udc and two digits)."""
+    return repr(tag.decode("utf-8", "surrogateescape"))[1:-1]
 
 
 def grouped(lines: list[bytes]) -> tuple[dict[bytes, tuple[Address, list[bytes]]], list[str]]:
@@ -65,4 +67,8 @@ def main() -> int:
 if __name__ == "__main__":
     # where nobody reads the output any more, the system ends it
     signal.signal(signal.SIGPIPE, signal.SIG_DFL)
+    # what is printed is UTF-8, as the list is
+    for stream in (sys.stdout, sys.stderr):
+        if isinstance(stream, TextIOWrapper):
+            stream.reconfigure(encoding="utf-8", errors="backslashreplace")
     sys.exit(main())

@@ -18,7 +18,7 @@ class SharedRequests(unittest.TestCase):
         return done.stdout.decode(), done.stderr.decode(), done.returncode
 
     def test_the_list(self):
-        there = (EXAMPLES / "shared_requests.out").read_text()
+        there = (EXAMPLES / "shared_requests.out").read_text("utf-8")
         self.assertEqual(self.run_on(EXAMPLES / "shared_requests.txt"), (there, "", 0))
         self.assertEqual(self.run_on(text=(EXAMPLES / "shared_requests.txt").read_bytes()), (there, "", 0))
 
@@ -29,8 +29,18 @@ class SharedRequests(unittest.TestCase):
         self.assertEqual(refused.splitlines(), [f"line 3: X7:0: {Refused(2)}", f"line 6: N7:0/3{{2}}: {Refused(3)}"])
         self.assertEqual(status, 1)
 
+    def test_utf_8(self):
+        # a separator that can't be printed, and lines of another encoding
+        text = "ı:0\nI:0\nT4:1éPRE\nT4:1.PRE\nT4:1\u2028PRE\nN7:ı\n".encode() + b"T4:1\xE9PRE\n\xFD:0"
+        groups = ("A2 02 01 83 00 00: I, file 1, element 0, position 0, count 1\n    ı:0\n    I:0\n"
+                  "A2 06 04 86 01 00: T, file 4, element 1, position 0, count 1\n    T4:1éPRE\n    T4:1.PRE\n    T4:1\\u2028PRE\n")
+        refused = f"line 6: N7:ı: {Refused(2)}\nline 7: T4:1\\udce9PRE: {Refused(1)}\nline 8: \\udcfd:0: {Refused(1)}\n"
+        # whatever the terminal takes
+        for encoding in ("utf-8", "ascii", "iso8859-9"):
+            self.assertEqual(self.run_on(text=text, PYTHONIOENCODING=encoding), (groups, refused, 1))
+
     def test_readme(self):
-        lines = (EXAMPLES.parent / "README.md").read_text().splitlines()
+        lines = (EXAMPLES.parent / "README.md").read_text("utf-8").splitlines()
         at = next(i for i, line in enumerate(lines) if line.startswith("    $ ") and line.endswith("examples/shared_requests.py"))
         there = lines[at + 1:lines.index("", at)]
         done = subprocess.run(lines[at][6:], shell=True, cwd=EXAMPLES.parent, capture_output=True, text=True)
