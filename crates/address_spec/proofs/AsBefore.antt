@@ -9,6 +9,7 @@ use native.Mathlib.Omega.{arith}
 use borrow.Author.Tests.{ltb-true}
 use lib.Dec.{leb, ltb}
 use lib.ListN.{length, drop}
+use Rattle.base.proofs.EveryPlace.{both}
 use Rattle.parser_spec.specs.DecimalNumbers.{digitRun}
 use Rattle.parser_spec.specs.Parts.{Part, then, atEnd, orElse, ended, whole}
 use Rattle.parser_spec.specs.Characters.{table, characterIn, character, anyByte, characters, wellFormed, one, letterOf, firstOf}
@@ -20,10 +21,6 @@ use Rattle.address_spec.specs.declared.Address.{Address}
 use Rattle.address_spec.specs.declared.Parsed.{Parsed}
 use Rattle.address_spec.specs.declared.Parsed.the-variants as parsed
 use Rattle.address_spec.proofs.PhrasesLeave.{file-leaves}
-
-both : (a b : Bool) → (a && b) ≡ true → (a ≡ true) × (b ≡ true)
-both true b e = (refl, e)
-both false b e = absurd (let z : _≡_ {A = ℕ} 0 1 = cc in omega arith)
 
 -- ---- what stands behind a part has bytes below 128 too
 rest : (k : ℕ) (s : List ℕ) → ascii s ≡ true → ascii (drop k s) ≡ true

@@ -15,6 +15,7 @@ use lib.ListN.{length, take, drop, getD, drop-of-length-le, length-drop}
 use lib.Seq.{drop-cons, drop-drop, take-all, length-take-le}
 use Rattle.base.specs.Chars.{bytes, upper, spelled}
 use Rattle.base.proofs.Chars.{spelled-short}
+use Rattle.base.proofs.EveryPlace.{both}
 use Rattle.base.proofs.Parts.{two-of, three-of}
 use Rattle.parser_spec.specs.DecimalNumbers.{Run, digitRun, numberOf}
 use Rattle.parser_spec.specs.Parts.{then, orElse}
@@ -53,10 +54,6 @@ same b = b
 abbrev bytesOnly : List ℕ → Bool
 bytesOnly [] = true
 bytesOnly (b ∷ s) = ltb b 256 && bytesOnly s
-
-both : (a b : Bool) → (a && b) ≡ true → (a ≡ true) × (b ≡ true)
-both true b e = (refl, e)
-both false b e = absurd (let z : _≡_ {A = ℕ} 0 1 = cc in omega arith)
 
 digit : (n m p q : ℕ) → p < 256 → q < 256 → eqb (n * 256 + p) (m * 256 + q) ≡ (eqb n m && eqb p q)
 digit n m p q h k = go (eqb n m) refl (eqb p q) refl

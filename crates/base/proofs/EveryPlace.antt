@@ -11,7 +11,7 @@ abbrev pub everyBelow : (ℕ → Bool) → ℕ → Bool
 everyBelow test zero = true
 everyBelow test (suc n) = test n && everyBelow test n
 
-both : (a b : Bool) → (a && b) ≡ true → (a ≡ true) × (b ≡ true)
+pub both : (a b : Bool) → (a && b) ≡ true → (a ≡ true) × (b ≡ true)
 both true b e = (refl, e)
 both false b e = let z : _≡_ {A = ℕ} 0 1 = cc in absurd (omega arith)
 

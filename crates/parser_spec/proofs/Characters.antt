@@ -11,6 +11,7 @@ use borrow.Author.Tests.{eq-eqb, ne-eqb, le-leb, lt-leb, leb-true, ltb-true}
 use lib.Dec.{leb, ltb, eqb}
 use lib.ListN.{length, drop, getD}
 use Rattle.base.specs.Chars.{upper}
+use Rattle.base.proofs.EveryPlace.{both}
 use Rattle.parser_spec.specs.Parts.{Part, then, here, orElse, atEnd}
 use Rattle.parser_spec.specs.Characters.{Range, within, Row, row, table, byteIn, bytesIn, pointIn, characterIn, character, anyByte, onward, characters, wellFormed, one, capital, letterOf, letter, firstOf}
 use Rattle.parser_spec.proofs.Held.{Holds, nothing, that, weaker, and-next, and-any, or-held, held-of, here-held, no-some}
@@ -137,10 +138,6 @@ above h (r ∷ rows) = ltb h (r .lead .low) && above h rows
 abbrev apart : List Row → Bool
 apart [] = true
 apart (r ∷ rows) = above (r .lead .high) rows && apart rows
-
-pub both : (a b : Bool) → (a && b) ≡ true → (a ≡ true) × (b ≡ true)
-both true b e = (refl, e)
-both false b e = absurd (let z : _≡_ {A = ℕ} 0 1 = cc in omega arith)
 
 above-at : (h : ℕ) (rows : List Row) (k : ℕ) (d : Row) → above h rows ≡ true → k < length rows → h < getD rows k d .lead .low
 above-at h [] k d a l = absurd (not-suc-le-zero l)

@@ -7,9 +7,9 @@ use mathlib.Core.Bool.{Bool, true, false, _&&_, cond}
 use native.Mathlib.Omega.{arith}
 use borrow.Author.Tests.{leb-true}
 use lib.Dec.{leb}
+use Rattle.base.proofs.EveryPlace.{both}
 use Rattle.parser_spec.specs.Characters.{Range, within, Row, table, byteIn, bytesIn, pointIn, characterIn, character}
 use Rattle.parser_spec.proofs.Held.{Holds, nothing, that, weaker, and-next}
-use Rattle.parser_spec.proofs.Characters.{both}
 
 -- the last sequence of a row, counted as `bytesIn` counts, and the code point that it gives
 abbrev lastIn : ℕ → List Range → ℕ
