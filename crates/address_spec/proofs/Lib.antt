@@ -3,4 +3,4 @@ pub mod Ranges
 pub mod PhrasesLeave
 pub mod FormReaders
 pub mod SpellingRows
-pub mod AsBefore
+pub mod Unchanged

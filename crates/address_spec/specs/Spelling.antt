@@ -202,5 +202,5 @@ unfoldable pub baseAddressOf : List ℕ → Parsed
 baseAddressOf tag = cond (leb (length tag) 255 && ascii tag) (accepted (formOf anyByte separates tag)) (parsed.Refused 1)
 
 -- for a tag of bytes below 128 every answer is document 01's
-abbrev pub AsBefore : Type 0
-AsBefore = (tag : List ℕ) → ascii tag ≡ true → addressOf tag ≡ baseAddressOf tag
+abbrev pub Unchanged : Type 0
+Unchanged = (tag : List ℕ) → ascii tag ≡ true → addressOf tag ≡ baseAddressOf tag

@@ -16,7 +16,7 @@ use Rattle.parser_spec.specs.Characters.{table, characterIn, character, anyByte
 use Rattle.parser_spec.proofs.Held.{nothing, that}
 use Rattle.parser_spec.proofs.Behind.{Leaves}
 use Rattle.parser_spec.proofs.Characters.{small-character, formed-next, any-leaves, letter-by-leaves, first-by-leaves}
-use Rattle.address_spec.specs.Spelling.{fileBefore, cut, cuts, elementName, ct, lfbn, slot, io, stOrA, sta, status, bits, orTry, lastForms, separates, formOf, accepted, ascii, addressOf, baseAddressOf, AsBefore}
+use Rattle.address_spec.specs.Spelling.{fileBefore, cut, cuts, elementName, ct, lfbn, slot, io, stOrA, sta, status, bits, orTry, lastForms, separates, formOf, accepted, ascii, addressOf, baseAddressOf, Unchanged}
 use Rattle.address_spec.specs.declared.Address.{Address}
 use Rattle.address_spec.specs.declared.Parsed.{Parsed}
 use Rattle.address_spec.specs.declared.Parsed.the-variants as parsed
@@ -63,7 +63,7 @@ module _ (separator : ℕ → Bool) where
   cuts-alike : (k : ℕ) (s : List ℕ) → ascii s ≡ true → cuts character separator k s ≡ cuts anyByte separator k s
   unfolding cuts cut
   cuts-alike zero s e = refl
-  cuts-alike (suc k) s e = ap₂ orElse (first _ (one-alike separator (drop (suc k) s) (rest (suc k) s e))) (cuts-alike k s e)
+  cuts-alike (suc k) s e = simp (one-alike separator (drop (suc k) s) (rest (suc k) s e), cuts-alike k s e)
 
   ct-alike : (tag : List ℕ) → ascii tag ≡ true → ct character separator tag ≡ ct anyByte separator tag
   unfolding ct whole elementName
@@ -110,9 +110,9 @@ small-formed (b ∷ s) e =
     let p = both (ltb b 128) (ascii s) e in
     formed-next (b ∷ s) b s (small-character b s (ltb-true b 128 (p .0))) ∙ small-formed s (p .1)
 
-pub as-before : AsBefore
+pub unchanged : Unchanged
 unfolding addressOf baseAddressOf
-as-before tag e = rw (small-formed tag e, e, form-alike tag e separates)
+unchanged tag e = rw (small-formed tag e, e, form-alike tag e separates)
 
 -- what document 01 accepts is accepted as it was
 pub stays : (tag : List ℕ) (x : Address) → baseAddressOf tag ≡ parsed.Is x → addressOf tag ≡ parsed.Is x
@@ -120,6 +120,6 @@ unfolding baseAddressOf
 stays tag x e = go (leb (length tag) 255) (ascii tag) refl e
   where
     go : (l t : Bool) → ascii tag ≡ t → cond (l && t) (accepted (formOf anyByte separates tag)) (parsed.Refused 1) ≡ parsed.Is x → addressOf tag ≡ parsed.Is x
-    go l true a q = as-before tag a ∙ e
+    go l true a q = unchanged tag a ∙ e
     go true false a q = absurd (let w : _≡_ {A = ℕ} 0 1 = cc in omega arith)
     go false false a q = absurd (let w : _≡_ {A = ℕ} 0 1 = cc in omega arith)
