@@ -16,9 +16,8 @@ use Rattle.parser_spec.specs.Characters.{table, characterIn, character, anyByte
 use Rattle.parser_spec.proofs.Held.{nothing, that}
 use Rattle.parser_spec.proofs.Behind.{Leaves}
 use Rattle.parser_spec.proofs.Characters.{small-character, formed-next, any-leaves, letter-by-leaves, first-by-leaves}
-use Rattle.address_spec.specs.Spelling.{fileBefore, cut, cuts, elementName, ct, lfbn, slot, io, stOrA, sta, status, bits, orTry, lastForms, separates, formOf, accepted, ascii, addressOf, baseAddressOf, Unchanged}
+use Rattle.address_spec.specs.Spelling.{cut, cuts, elementName, ct, lfbn, slot, io, stOrA, sta, status, bits, orTry, lastForms, separates, formOf, accepted, ascii, addressOf, baseAddressOf, Unchanged}
 use Rattle.address_spec.specs.declared.Address.{Address}
-use Rattle.address_spec.specs.declared.Parsed.{Parsed}
 use Rattle.address_spec.specs.declared.Parsed.the-variants as parsed
 use Rattle.address_spec.proofs.PhrasesLeave.{file-leaves}
 

@@ -189,11 +189,11 @@ abbrev pub accepted : Option Address → Parsed
 accepted none = parsed.Refused 2
 accepted (some x) = parsed.Is x
 
--- A2: "1 now means longer than 255 bytes or not well-formed"; document 01: "2. Does `parse_tag` accept it? no: 2"
+-- A2: "a tag is well-formed UTF-8 of at most 255 bytes"; "1 now means longer than 255 bytes or not well-formed"; document 01: "2. Does `parse_tag` accept it? no: 2"
 unfoldable pub addressOf : List ℕ → Parsed
 addressOf tag = cond (leb (length tag) 255 && wellFormed tag) (accepted (formOf character separates tag)) (parsed.Refused 1)
 
--- document 01's own: "1. Is the tag at most 255 bytes, each below 128? no: 1"
+-- document 01's own answer: "1. Is the tag at most 255 bytes, each below 128? no: 1"
 unfoldable pub ascii : List ℕ → Bool
 ascii [] = true
 ascii (x ∷ r) = ltb x 128 && ascii r

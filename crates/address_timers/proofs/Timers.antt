@@ -2,22 +2,20 @@
 use Prim.Native.Nat.{ℕ, zero, suc, _+_, _*_, _≤_, _<_, _-_, min}
 use Prim.Native.String.{String}
 use mathlib.Core.Path.{_≡_, refl, ap, ap₂, sym, _∙_}
-use mathlib.Core.Logic.{⊎-elim}
 use mathlib.Core.List.{List, [], _∷_}
 use mathlib.Core.Option.{Option, none, some}
 use mathlib.Core.Bool.{Bool, true, false, not, _&&_, cond}
-use native.Mathlib.Nat.{eq-or-lt-of-le, le-of-suc-le-suc, not-suc-le-zero, add-sub-cancel-left}
-use native.Mathlib.Numerals.{add-one}
+use native.Mathlib.Nat.{not-suc-le-zero, add-sub-cancel-left}
 use native.Mathlib.Omega.{arith}
 use borrow.Author.Tests.{eqb-true, eqb-false, leb-true, ltb-true, eq-eqb, ne-eqb, not-true, not-false}
 use lib.Dec.{eqb, leb, ltb}
-use lib.ListN.{length, take, drop, getD, drop-of-length-le, length-drop}
-use lib.Seq.{drop-cons, drop-drop, take-all, length-take-le}
+use lib.ListN.{length, take, drop, getD, length-drop}
+use lib.Seq.{drop-drop, take-all}
 use Rattle.base.specs.Chars.{bytes, upper, spelled}
 use Rattle.base.proofs.Chars.{spelled-short}
 use Rattle.base.proofs.EveryPlace.{both}
 use Rattle.base.proofs.Parts.{two-of, three-of}
-use Rattle.parser_spec.specs.DecimalNumbers.{Run, digitRun, numberOf}
+use Rattle.parser_spec.specs.DecimalNumbers.{Run, numberOf}
 use Rattle.parser_spec.specs.Parts.{then, orElse}
 use Rattle.parser_spec.specs.Characters.{character, one}
 use Rattle.parser_spec.proofs.Characters.{character-leaves, one-leaves}

@@ -1,20 +1,18 @@
 -- Laws by which the readers of characters are proved: each says what a part gives from what the reader met.
-use Prim.Native.Nat.{ℕ, suc, _+_, _*_, _-_, _≤_, _<_}
+use Prim.Native.Nat.{ℕ, _+_, _*_, _-_, _≤_, _<_}
 use mathlib.Core.Path.{_≡_, refl, ap, sym, _∙_}
 use mathlib.Core.List.{List, [], _∷_}
 use mathlib.Core.Option.{Option, none, some}
-use mathlib.Core.Bool.{Bool, true, false, _&&_, cond}
+use mathlib.Core.Bool.{Bool, true, false, cond}
 use native.Mathlib.Omega.{arith}
 use borrow.Author.Tests.{le-leb, lt-leb, leb-true, leb-false, eq-eqb, ne-eqb}
 use lib.Dec.{leb, eqb}
 use lib.ListN.{length, drop, getD, drop-of-length-le, length-drop}
-use lib.Seq.{drop-drop}
 use Rattle.base.specs.Chars.{upper}
 use Rattle.base.proofs.Parts.{drop-next}
 use Rattle.parser_spec.specs.Parts.{then, here, atEnd}
-use Rattle.parser_spec.specs.Characters.{Range, _to_, within, Row, row, table, byteIn, bytesIn, pointIn, characterIn, character, wellFormed, one, capital, letterOf}
+use Rattle.parser_spec.specs.Characters.{Range, _to_, within, table, byteIn, bytesIn, pointIn, characterIn, character, wellFormed, one, capital, letterOf}
 use Rattle.parser_spec.proofs.Held.{Holds, nothing, that, held-of}
-use Rattle.parser_spec.proofs.Behind.{Leaves}
 use Rattle.parser_spec.proofs.Characters.{byte-in-leaves, character-leaves, lead-read, rowAt, in-row, no-row, no-more, far, small-character, small-capital, formed-none, formed-next}
 use Rattle.parser_spec.proofs.Written.{step, stop}
 use Rattle.parser.specs.CursorAnswers.{placed, eatenOf, readWordOf}

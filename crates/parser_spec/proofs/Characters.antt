@@ -14,8 +14,8 @@ use Rattle.base.specs.Chars.{upper}
 use Rattle.base.proofs.EveryPlace.{both}
 use Rattle.parser_spec.specs.Parts.{Part, then, here, orElse, atEnd}
 use Rattle.parser_spec.specs.Characters.{Range, within, Row, row, table, byteIn, bytesIn, pointIn, characterIn, character, anyByte, onward, characters, wellFormed, one, capital, letterOf, letter, firstOf}
-use Rattle.parser_spec.proofs.Held.{Holds, nothing, that, weaker, and-next, and-any, or-held, held-of, here-held, no-some}
-use Rattle.parser_spec.proofs.Behind.{Behind, Leaves, behind-drop, further, then-leaves, give-leaves, here-leaves}
+use Rattle.parser_spec.proofs.Held.{Holds, nothing, that, weaker, and-any, or-held, held-of, here-held, no-some}
+use Rattle.parser_spec.proofs.Behind.{Leaves, behind-drop, further, then-leaves, give-leaves, here-leaves}
 
 -- ---- what a character leaves
 pub tested : {A : Type 0} {P : A → List ℕ → Type 0} (t : Bool) {x y : Option (A × List ℕ)} → Holds P x → Holds P y → Holds P (cond t x y)
@@ -79,9 +79,25 @@ module _ (char : Part ℕ) where
     pub passes : test value ≡ true
     pub text : char s ≡ some (value, r)
 
+  pub one-held : (test : ℕ → Bool) (s : List ℕ) → Holds (λ (u : Unit {0}) (r : List ℕ). Read test s r) (one char test s)
+  unfolding one then
+  one-held test s = go (char s) refl
+    where
+      go : (z : Option (ℕ × List ℕ)) → char s ≡ z → Holds (λ (u : Unit {0}) (r : List ℕ). Read test s r) (then z (λ x. here (test x)))
+      go none e = nothing
+      go (some p) e = weaker (λ u r h. record { value = p .0; passes = h .0; text = e ∙ ap (λ (l : List ℕ). some (p .0, l)) (sym (h .1)) }) (here-held (test (p .0)) (p .1))
+
   pub one-read : (test : ℕ → Bool) (x : ℕ) {s r : List ℕ} → char s ≡ some (x, r) → test x ≡ true → one char test s ≡ some (tt, r)
   unfolding one then here
   one-read test x e h = rw (e, h)
+
+  pub letter-held : (v : ℕ) (s : List ℕ) → Holds (λ (u : Unit {0}) (r : List ℕ). Read (λ x. eqb (capital x) v) s r) (letterOf char v s)
+  unfolding letterOf
+  letter-held v s = one-held _ s
+
+  pub letter-read : (v x : ℕ) {s r : List ℕ} → char s ≡ some (x, r) → capital x ≡ v → letterOf char v s ≡ some (tt, r)
+  unfolding letterOf
+  letter-read v x e h = one-read _ x e (eq-eqb _ _ h)
 
   module _ {A : Type 0} (c : Char) (a : A) (xs : List (Char × A)) (t : List ℕ) where
     pub first-read : {s : List ℕ} → letter char c t ≡ some (tt, s) → firstOf char ((c, a) ∷ xs) t ≡ some (a, s)

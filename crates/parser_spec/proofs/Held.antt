@@ -1,15 +1,14 @@
 -- What holds of whatever a part reads: a law for each part, so that a fact about accepted texts is one line a form.
-use Prim.Native.Nat.{ℕ, _≤_, _<_, min}
-use Prim.Native.Char.{Char}
+use Prim.Native.Nat.{ℕ, _≤_, _<_}
 use mathlib.Core.Path.{_≡_, refl, ap, sym, _∙_, subst}
 use mathlib.Core.List.{List, [], _∷_}
 use mathlib.Core.Option.{Option, none, some}
 use mathlib.Core.Bool.{Bool, true, false, _&&_, cond}
 use native.Mathlib.Omega.{arith}
 use borrow.Author.Tests.{eqb-true, leb-true, ltb-true}
-use lib.Dec.{eqb, leb, ltb}
+use lib.Dec.{leb, ltb}
 use lib.ListN.{take, drop}
-use Rattle.parser_spec.specs.DecimalNumbers.{digitRun, decimal, most, numberOf}
+use Rattle.parser_spec.specs.DecimalNumbers.{digitRun, most, numberOf}
 use Rattle.parser_spec.specs.Parts.{Part, then, orElse, ended, whole, atEnd, here, oneByte, byte, numeral, digits, digitsIn, behind, afterByte, countNumber, countOf}
 
 pub data Holds {X : Type 0} (P : X → List ℕ → Type 0) : Option (X × List ℕ) → Type 0 where

@@ -4,7 +4,7 @@ use Prim.Native.Char.{Char, code}
 use mathlib.Core.List.{List, [], _∷_}
 use mathlib.Core.Option.{Option, none, some}
 use mathlib.Core.Bool.{Bool, _&&_, cond}
-use lib.Dec.{leb, ltb, eqb}
+use lib.Dec.{leb, eqb}
 use lib.ListN.{length}
 use Rattle.base.specs.Chars.{upper}
 use Rattle.parser_spec.specs.Parts.{Part, then, _>>=_, give, here, orElse, atEnd}
@@ -75,6 +75,7 @@ anyByte [] = none
 anyByte (b ∷ s) = some (b, s)
 
 -- ---- a text of characters
+-- what is said of the rest behind a character; where there is none, whether the text is at its end
 abbrev pub onward : Option (ℕ × List ℕ) → List ℕ → (List ℕ → Bool) → Bool
 onward none s k = atEnd s
 onward (some x) s k = k (x .1)
@@ -84,11 +85,11 @@ unfoldable pub characters : ℕ → List ℕ → Bool
 characters zero s = atEnd s
 characters (suc n) s = onward (character s) s (characters n)
 
--- A2: "a tag is well-formed UTF-8"; each character has a byte or more
+-- A2: "a tag is well-formed UTF-8"; a character takes a byte or more, so that as many as there are bytes are enough
 unfoldable pub wellFormed : List ℕ → Bool
 wellFormed s = characters (length s) s
 
--- ---- where a character is read, by one of the two readers
+-- ---- what is asked of a character, read by `char`
 module _ (char : Part ℕ) where
   -- one character that passes a test
   unfoldable pub one : (ℕ → Bool) → Part (Unit {0})
