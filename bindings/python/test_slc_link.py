@@ -293,7 +293,7 @@ class TagsInUtf8(Refusing):
             self.refused(2, parse_tag, f"T4:1{separator}PRE")
 
     def test_what_is_no_file_letter_name_digit_or_sign(self):
-        # a capital I with a dot; a ligature of s and t; a byte order mark; wide, Arabic and raised ones; a wide blank
+        # a capital I with a dot; a ligature of s and t; a byte order mark; wide, Arabic and raised ones; a blank that doesn't break
         for tag in ("\u0130:0", "é:0", "ßT9:0", "\uFB06" "9:0", "ſſ9:0", "sſ:0", "\uFEFFN7:0", "\uFF2E7:0", "N7:ı", "N7:0/ı", "Nı:0", "N7\uFF1A0", "N\u0667:0",
                     "N\u00B2:0", "N7:0{\uFF11}", "N7:0\u00A0", "T4:1.PRÉ", "ı", "ſ", "é"):
             self.refused(2, parse_tag, tag)

@@ -96,7 +96,7 @@ module _ (tag : List ℕ) (e : ascii tag ≡ true) where
   unfolding bits whole
   bits-alike = ap ended (first _ (letter-alike _ tag e))
 
-  pub form-alike : (separator : ℕ → Bool) → formOf character separator tag ≡ formOf anyByte separator tag
+  form-alike : (separator : ℕ → Bool) → formOf character separator tag ≡ formOf anyByte separator tag
   unfolding formOf lastForms
   form-alike separator =
       ap₂ orTry (ct-alike separator tag e) (ap₂ orTry lfbn-alike (ap₂ orTry io-alike (ap₂ orTry (sta-alike true) (ap₂ orTry (sta-alike false) (ap₂ orTry status-alike bits-alike)))))

@@ -71,12 +71,12 @@ unfoldable pub ctNames : List (String × ℕ)
 ctNames =
     ("PRE", 1) ∷ ("ACC", 2) ∷ ("EN", 15) ∷ ("TT", 14) ∷ ("DN", 13) ∷ ("CU", 15) ∷ ("CD", 14) ∷ ("OV", 12) ∷ ("UN", 11) ∷ ("UA", 10) ∷ []
 
--- "then exactly one name": all the rest spells it
+-- "then exactly one name": all the rest spells it. A2: "Names, digits and signs are as before."
 unfoldable pub nameIn : List (String × ℕ) → Part ℕ
 nameIn [] s = none
 nameIn (x ∷ xs) s = cond (spelled true (bytes (x .0)) s) (some (x .1, [])) (nameIn xs s)
 
--- A2: "The separator of a timer or counter address is one character that isn't a newline."; document 01: "one byte that isn't a newline"
+-- A2: "The separator of a timer or counter address is one character that isn't a newline.", which is U+000A alone; document 01: "one byte that isn't a newline"
 abbrev pub separates : ℕ → Bool
 separates x = not (eqb x 10)
 
@@ -115,7 +115,7 @@ optionalPosition = after "." (digitsIn 3 0 999) 0
 abbrev pub slots : List (Char × (FileType × ℕ))
 slots = ("I", (I, 1)) ∷ ("O", (O, 0)) ∷ []
 
--- "all of it for .. S with a bit, else what stands before `{`"
+-- "all of it for .. S with a bit, else what stands before `{`"; A2: "The kept length counts bytes."
 abbrev pub keptOf : Maybe → List ℕ → ℕ
 keptOf Missing tag = before "{" tag
 keptOf (Is n) tag = length tag

@@ -108,11 +108,11 @@ module _ (s : List ℕ) (d : Digits s) (l k : ℕ) (e : length s ≡ l) (f : pac
   unfolding ctNames
   by-key = name-by ctNames s refl d ∙ ap₂ (λ (l k : ℕ). keyed l k ctNames) e f
 
-  pub is-name : (v : ℕ) → keyed l k ctNames ≡ some (v, []) → nameIn ctNames s ≡ maybeOf (maybe.Is v)
+  is-name : (v : ℕ) → keyed l k ctNames ≡ some (v, []) → nameIn ctNames s ≡ maybeOf (maybe.Is v)
   unfolding maybeOf
   is-name v h = by-key ∙ h
 
-  pub no-name : keyed l k ctNames ≡ none → nameIn ctNames s ≡ maybeOf maybe.Missing
+  no-name : keyed l k ctNames ≡ none → nameIn ctNames s ≡ maybeOf maybe.Missing
   unfolding maybeOf
   no-name h = by-key ∙ h
 

@@ -105,7 +105,7 @@ fn ascii_run(s: &[u8]) -> usize
     i
 }
 
-// Are all of the bytes characters? Behind the first one above U+007F each is decoded.
+// Are all of the bytes characters? From the first one above U+007F on each is decoded.
 pub fn is_well_formed(s: &[u8]) -> bool
     ensures { λ r. ⌜ r ≡ wellFormed (now (s .entry)) ⌝ }
 {
@@ -162,7 +162,7 @@ fn any_letter(c: Cur, s: &[u8], v: u8) -> Eaten
     Eaten::No
 }
 
-// The same. Of the letters below 128 only I and S have a form above U+007F; where `v` is known, the others aren't asked for it.
+// The same. Callers have a constant below 128 as `v`, and of those only I and S have a form above U+007F: no other is asked for one.
 pub fn letter(c: Cur, s: &[u8], v: u8) -> Eaten
     ensures { λ r. ⌜ r ≡ eatenOf (readAt (c .i) (now (s .entry)) (letterOf Characters·character v)) ⌝ }
 {

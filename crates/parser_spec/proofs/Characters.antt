@@ -18,7 +18,7 @@ use Rattle.parser_spec.proofs.Held.{Holds, nothing, that, weaker, and-a
 use Rattle.parser_spec.proofs.Behind.{Leaves, behind-drop, further, then-leaves, give-leaves, here-leaves}
 
 -- ---- what a character leaves
-pub tested : {A : Type 0} {P : A → List ℕ → Type 0} (t : Bool) {x y : Option (A × List ℕ)} → Holds P x → Holds P y → Holds P (cond t x y)
+tested : {A : Type 0} {P : A → List ℕ → Type 0} (t : Bool) {x y : Option (A × List ℕ)} → Holds P x → Holds P y → Holds P (cond t x y)
 tested true f g = f
 tested false f g = g
 
@@ -73,6 +73,10 @@ pub first-leaves : {A : Type 0} (xs : List (Char × A)) (s : List ℕ) → Leave
 first-leaves xs s = first-by-leaves character character-leaves xs s
 
 -- ---- what holds of what is read, and what was written
+abbrev pub AllOf : {X : Type 0} → (X → Type 0) → List (Char × X) → Type 0
+AllOf P [] = Unit {0}
+AllOf P (x ∷ xs) = P (x .1) × AllOf P xs
+
 module _ (char : Part ℕ) where
   pub record Read (test : ℕ → Bool) (s r : List ℕ) : Type 0 where
     pub value : ℕ
@@ -109,10 +113,6 @@ module _ (char : Part ℕ) where
     first-past e = rw e
 
   module _ {X : Type 0} where
-    abbrev pub AllOf : (X → Type 0) → List (Char × X) → Type 0
-    AllOf P [] = Unit {0}
-    AllOf P (x ∷ xs) = P (x .1) × AllOf P xs
-
     pub first-held : (P : X → Type 0) (xs : List (Char × X)) → AllOf P xs → (s : List ℕ) → Holds (λ (t : X) (r : List ℕ). P t) (firstOf char xs s)
     unfolding firstOf
     first-held P [] h s = nothing

@@ -1,4 +1,4 @@
--- What holds the table of characters: each row has as many sequences of bytes as code points, so that every character is a Unicode scalar value.
+-- The table of characters is the Unicode Standard's: each row has as many sequences of bytes as code points, so that every character is a Unicode scalar value.
 use Prim.Native.Nat.{ℕ, _+_, _*_, _-_, _≤_}
 use mathlib.Core.Path.{_≡_, refl}
 use mathlib.Core.List.{List, [], _∷_}

@@ -55,7 +55,7 @@ unfoldable pub bytesIn : ℕ → List Range → Part ℕ
 bytesIn n [] = give n
 bytesIn n (r ∷ rs) = do d ← byteIn r; bytesIn (n * 64 + d) rs
 
--- the code point that stands as far behind the row's first as its bytes do
+-- the code point: as far behind the row's first as the sequence is among the row's
 unfoldable pub pointIn : ℕ → ℕ → List Range → Part ℕ
 pointIn c n rs = do m ← bytesIn n rs; give (c + m)
 
@@ -65,7 +65,7 @@ characterIn [] s = none
 characterIn (r ∷ rows) [] = none
 characterIn (r ∷ rows) (b ∷ s) = cond (within (r .lead) b) (pointIn (r .first) (b - r .lead .low) (r .trail) s) (characterIn rows (b ∷ s))
 
--- A2: "a character is a code point"
+-- "a character is a code point" (the protocol of document 02, of A2)
 abbrev pub character : Part ℕ
 character = characterIn table
 
