@@ -243,4 +243,4 @@ module _ (b : ℕ) (s : List ℕ) where
   small-character h = in-row 0 (omega arith) (omega arith) (omega arith) ∙ ap (λ (x : ℕ). some (x, s)) (omega arith)
 
 pub small-capital : (x : ℕ) → x < 128 → capital x ≡ upper x
-small-capital x h = rw (ne-eqb x 0x131 (λ e. omega arith), ne-eqb x 0x17F (λ e. omega arith))
+small-capital x h = simp (ne-eqb x 0x131 (λ e. omega arith), ne-eqb x 0x17F (λ e. omega arith))

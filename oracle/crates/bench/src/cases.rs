@@ -181,7 +181,7 @@ fn many_files(files: u32) -> Vec<Case> {
 }
 
 pub fn all() -> Vec<Case> {
-    let tags = ["N7:0", "T4:123PRE", "I99:3.300/5", "B3/4095", "S:1/15{18446744073709551616}", "X7:0"];
+    let tags = ["N7:0", "T4:123PRE", "I99:3.300/5", "B3/4095", "S:1/15{18446744073709551616}", "X7:0", "ı:0", "T4:1éPRE"];
     let mut cases: Vec<Case> = tags.map(parse_tag).into();
     cases.extend(["N7:0", "I99:3.300/5"].map(read_request));
     let raw = |n: u32| (0..n).map(|i| i as u8).collect::<Vec<u8>>();
