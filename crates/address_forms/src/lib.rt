@@ -1,6 +1,6 @@
 // The forms of an address, each read from the whole tag.
 ghost use mathlib.Core.Path.{_≡_};
-ghost use Rattle.parser_spec.specs.Characters.{character};
+ghost use Rattle.parser_spec.specs.Characters.{utf8};
 ghost use Rattle.address_spec.specs.ReaderAnswers.{foundOf};
 ghost use Rattle.address_spec.specs.Spelling.{separates, ct, lfbn, io, sta, keptOf, status, bits, lastForms, formOf};
 use address_spec::Address;
@@ -18,7 +18,7 @@ use parser::ReadWord;
 
 // C and T: file, `:`, element, separator, name.
 fn parse_ct(tag: &[u8]) -> Found
-    ensures { λ r. ⌜ r ≡ foundOf (ct character separates (now (tag .entry))) ⌝ }
+    ensures { λ r. ⌜ r ≡ foundOf (ct utf8 separates (now (tag .entry))) ⌝ }
 {
     let start = Cur { i: 0 };
     let Typed::Is(file_type, c1) = address_phrases::ct_letter(start, tag) else {
@@ -47,7 +47,7 @@ fn parse_ct(tag: &[u8]) -> Found
 
 // L, F, B and N: file, `:`, element, optional bit, count.
 fn parse_lfbn(tag: &[u8]) -> Found
-    ensures { λ r. ⌜ r ≡ foundOf (lfbn character (now (tag .entry))) ⌝ }
+    ensures { λ r. ⌜ r ≡ foundOf (lfbn utf8 (now (tag .entry))) ⌝ }
 {
     let start = Cur { i: 0 };
     let Typed::Is(file_type, c1) = address_phrases::lfbn_letter(start, tag) else {
@@ -80,7 +80,7 @@ fn parse_lfbn(tag: &[u8]) -> Found
 
 // I and O: optional number, `:`, element, optional position, optional bit, count.
 fn parse_io(tag: &[u8]) -> Found
-    ensures { λ r. ⌜ r ≡ foundOf (io character (now (tag .entry))) ⌝ }
+    ensures { λ r. ⌜ r ≡ foundOf (io utf8 (now (tag .entry))) ⌝ }
 {
     let start = Cur { i: 0 };
     let Slot::Is(file_type, file, c1) = address_phrases::slot(start, tag) else {
@@ -113,7 +113,7 @@ fn parse_io(tag: &[u8]) -> Found
 
 // ST, or A: file, `:`, element, count.
 fn parse_st_a(tag: &[u8], st: bool) -> Found
-    ensures { λ r. ⌜ r ≡ foundOf (sta character st (now (tag .entry))) ⌝ }
+    ensures { λ r. ⌜ r ≡ foundOf (sta utf8 st (now (tag .entry))) ⌝ }
 {
     let start = Cur { i: 0 };
     let Typed::Is(file_type, c1) = address_phrases::st_or_a(start, tag, st) else {
@@ -156,7 +156,7 @@ fn kept_of(sub: Maybe, tag: &[u8]) -> usize
 
 // S: `:`, element, optional bit, count.
 fn parse_s(tag: &[u8]) -> Found
-    ensures { λ r. ⌜ r ≡ foundOf (status character (now (tag .entry))) ⌝ }
+    ensures { λ r. ⌜ r ≡ foundOf (status utf8 (now (tag .entry))) ⌝ }
 {
     let start = Cur { i: 0 };
     let Eaten::At(c1) = parser_characters::letter(start, tag, b'S') else {
@@ -189,7 +189,7 @@ fn parse_s(tag: &[u8]) -> Found
 
 // B: file, `/`, a bit counted across the whole file, count.
 fn parse_b(tag: &[u8]) -> Found
-    ensures { λ r. ⌜ r ≡ foundOf (bits character (now (tag .entry))) ⌝ }
+    ensures { λ r. ⌜ r ≡ foundOf (bits utf8 (now (tag .entry))) ⌝ }
 {
     let start = Cur { i: 0 };
     let Eaten::At(c1) = parser_characters::letter(start, tag, b'B') else {
@@ -222,7 +222,7 @@ fn parse_b(tag: &[u8]) -> Found
 
 // ST, A, S and B in turn.
 fn parse_last(tag: &[u8]) -> Found
-    ensures { λ r. ⌜ r ≡ foundOf (lastForms character (now (tag .entry))) ⌝ }
+    ensures { λ r. ⌜ r ≡ foundOf (lastForms utf8 (now (tag .entry))) ⌝ }
 {
     let r1 = parse_st_a(tag, true);
     if let Found::Is(_) = r1 {
@@ -241,7 +241,7 @@ fn parse_last(tag: &[u8]) -> Found
 
 // The forms in turn.
 pub fn parse_form(tag: &[u8]) -> Found
-    ensures { λ r. ⌜ r ≡ foundOf (formOf character separates (now (tag .entry))) ⌝ }
+    ensures { λ r. ⌜ r ≡ foundOf (formOf utf8 separates (now (tag .entry))) ⌝ }
 {
     let r1 = parse_ct(tag);
     if let Found::Is(_) = r1 {

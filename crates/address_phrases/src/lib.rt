@@ -4,7 +4,7 @@ ghost use mathlib.Core.List.{[], _∷_};
 ghost use mathlib.Core.Option.{some};
 ghost use lib.ListN.{drop};
 ghost use Rattle.file_type.specs.declared.FileType.the-variants.{C, T, L, F, B, N};
-ghost use Rattle.parser_spec.specs.Characters.{character, firstOf};
+ghost use Rattle.parser_spec.specs.Characters.{utf8, firstOf};
 ghost use Rattle.parser_spec.specs.Parts.{ended};
 ghost use Rattle.parser.specs.CursorAnswers.{readAt, eatenOf, readWordOf};
 ghost use Rattle.address_spec.specs.ReaderAnswers.{typedOf, slotOf, bitOf, tailOf, foundOf};
@@ -23,7 +23,7 @@ use parser::ReadNumber;
 use parser::ReadWord;
 
 pub fn ct_letter(c: Cur, s: &[u8]) -> Typed
-    ensures { λ r. ⌜ r ≡ typedOf (readAt (c .i) (now (s .entry)) (firstOf character (("C", C) ∷ ("T", T) ∷ []))) ⌝ }
+    ensures { λ r. ⌜ r ≡ typedOf (readAt (c .i) (now (s .entry)) (firstOf utf8 (("C", C) ∷ ("T", T) ∷ []))) ⌝ }
 {
     if let Eaten::At(d) = parser_characters::letter(c, s, b'C') {
         return Typed::Is(FileType::C, d);
@@ -35,7 +35,7 @@ pub fn ct_letter(c: Cur, s: &[u8]) -> Typed
 }
 
 pub fn lfbn_letter(c: Cur, s: &[u8]) -> Typed
-    ensures { λ r. ⌜ r ≡ typedOf (readAt (c .i) (now (s .entry)) (firstOf character (("L", L) ∷ ("F", F) ∷ ("B", B) ∷ ("N", N) ∷ []))) ⌝ }
+    ensures { λ r. ⌜ r ≡ typedOf (readAt (c .i) (now (s .entry)) (firstOf utf8 (("L", L) ∷ ("F", F) ∷ ("B", B) ∷ ("N", N) ∷ []))) ⌝ }
 {
     if let Eaten::At(d) = parser_characters::letter(c, s, b'L') {
         return Typed::Is(FileType::L, d);
@@ -54,7 +54,7 @@ pub fn lfbn_letter(c: Cur, s: &[u8]) -> Typed
 
 // The type and file of I and O.
 fn io_letter(c: Cur, s: &[u8]) -> Slot
-    ensures { λ r. ⌜ r ≡ slotOf (readAt (c .i) (now (s .entry)) (firstOf character slots)) ⌝ }
+    ensures { λ r. ⌜ r ≡ slotOf (readAt (c .i) (now (s .entry)) (firstOf utf8 slots)) ⌝ }
 {
     if let Eaten::At(d) = parser_characters::letter(c, s, b'I') {
         return Slot::Is(FileType::I, 1, d);
@@ -67,7 +67,7 @@ fn io_letter(c: Cur, s: &[u8]) -> Slot
 
 // The letters ST, or A.
 pub fn st_or_a(c: Cur, s: &[u8], st: bool) -> Typed
-    ensures { λ r. ⌜ r ≡ typedOf (readAt (c .i) (now (s .entry)) (stOrA character st)) ⌝ }
+    ensures { λ r. ⌜ r ≡ typedOf (readAt (c .i) (now (s .entry)) (stOrA utf8 st)) ⌝ }
 {
     if !st {
         let Eaten::At(d) = parser_characters::letter(c, s, b'A') else {
@@ -139,7 +139,7 @@ fn ignore_number(c: Cur, s: &[u8]) -> Eaten
 
 // I or O, an optional number, `:`.
 pub fn slot(c: Cur, s: &[u8]) -> Slot
-    ensures { λ r. ⌜ r ≡ slotOf (readAt (c .i) (now (s .entry)) (Spelling·slot character)) ⌝ }
+    ensures { λ r. ⌜ r ≡ slotOf (readAt (c .i) (now (s .entry)) (Spelling·slot utf8)) ⌝ }
 {
     let Slot::Is(t, f, d) = io_letter(c, s) else {
         return Slot::No;

@@ -10,7 +10,7 @@ use lib.ListN.{length, drop}
 use Rattle.file_type.specs.declared.FileType.{FileType}
 use Rattle.parser_spec.specs.DecimalNumbers.{Run, digitRun}
 use Rattle.parser_spec.specs.Parts.{Part, then, ended, whole, atEnd, digits, beforeByte}
-use Rattle.parser_spec.specs.Characters.{character, wellFormed}
+use Rattle.parser_spec.specs.Characters.{wellFormed, utf8}
 use Rattle.address_spec.specs.ReaderAnswers.{foundOf}
 use Rattle.address_spec.specs.Spelling.{address, keptOf, ignored, stOrA, orTry, formOf, separates, addressOf}
 use Rattle.address_spec.specs.declared.Address.{Address}
@@ -75,10 +75,10 @@ module _ (s : List ℕ) (i n : ℕ) (run : Run s i n) where
       go d g = rw (borrow.Author.Tests.ne-eqb d 0 g) h
 
 module _ (st : Bool) (s : List ℕ) (y : Option (FileType × List ℕ)) where
-  pub only-a : not st ≡ true → stOrA character false s ≡ y → stOrA character st s ≡ y
+  pub only-a : not st ≡ true → stOrA utf8 false s ≡ y → stOrA utf8 st s ≡ y
   only-a e h = rw (not-true st e) h
 
-  pub only-st : not st ≡ false → stOrA character true s ≡ y → stOrA character st s ≡ y
+  pub only-st : not st ≡ false → stOrA utf8 true s ≡ y → stOrA utf8 st s ≡ y
   only-st e h = rw (not-false st e) h
 
 -- ---- the forms in turn
@@ -110,23 +110,23 @@ module _ (s : List ℕ) where
     unfolding addressOf
     tag-ill g = rw (le-leb _ _ h, ← e, not-true b g)
 
-    module _ (g : not b ≡ false) (r : Found) (f : r ≡ foundOf (formOf character separates s)) where
-      by-form : (x : Option Address) → formOf character separates s ≡ x → addressOf s ≡ Rattle.address_spec.specs.Spelling.accepted x
+    module _ (g : not b ≡ false) (r : Found) (f : r ≡ foundOf (formOf utf8 separates s)) where
+      by-form : (x : Option Address) → formOf utf8 separates s ≡ x → addressOf s ≡ Rattle.address_spec.specs.Spelling.accepted x
       unfolding addressOf
       by-form x q = rw (le-leb _ _ h, ← e, not-false b g, q)
 
       pub tag-no : r ≡ found.No → parsed.Refused 2 ≡ addressOf s
       unfolding foundOf
-      tag-no n = go (formOf character separates s) refl
+      tag-no n = go (formOf utf8 separates s) refl
         where
-          go : (x : Option Address) → formOf character separates s ≡ x → parsed.Refused 2 ≡ addressOf s
+          go : (x : Option Address) → formOf utf8 separates s ≡ x → parsed.Refused 2 ≡ addressOf s
           go none q = sym (by-form none q)
           go (some z) q = absurd (let y : found.No ≡ foundOf (some z) = sym n ∙ f ∙ ap foundOf q in let w : _≡_ {A = ℕ} 0 1 = cc in omega arith)
 
       pub tag-is : (a : Address) → r ≡ found.Is a → parsed.Is a ≡ addressOf s
       unfolding foundOf
-      tag-is a n = go (formOf character separates s) refl
+      tag-is a n = go (formOf utf8 separates s) refl
         where
-          go : (x : Option Address) → formOf character separates s ≡ x → parsed.Is a ≡ addressOf s
+          go : (x : Option Address) → formOf utf8 separates s ≡ x → parsed.Is a ≡ addressOf s
           go none q = absurd (let y : found.Is a ≡ foundOf none = sym n ∙ f ∙ ap foundOf q in let w : _≡_ {A = ℕ} 0 1 = cc in omega arith)
           go (some z) q = let y : found.Is a ≡ foundOf (some z) = sym n ∙ f ∙ ap foundOf q in let w : a ≡ z = cc in ap parsed.Is w ∙ sym (by-form (some z) q)

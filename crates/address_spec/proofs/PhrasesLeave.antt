@@ -7,7 +7,7 @@ use lib.Dec.{eqb}
 use Rattle.parser_spec.specs.DecimalNumbers.{digitRun}
 use Rattle.parser_spec.specs.Parts.{then, digits}
 use Rattle.parser_spec.proofs.Behind.{Leaves, then-leaves, give-leaves, byte-leaves, digits-leaves, in-leaves, after-leaves, count-leaves}
-use Rattle.parser_spec.specs.Characters.{character}
+use Rattle.parser_spec.specs.Characters.{utf8}
 use Rattle.parser_spec.proofs.Characters.{letter-leaves, first-leaves}
 use Rattle.address_spec.specs.Spelling.{fileBefore, optionalBit, bitCount, ignored, optionalPosition, slot, stOrA}
 
@@ -31,7 +31,7 @@ ignored-leaves s = go (eqb (digitRun s) 0)
     go true = give-leaves s
     go false = then-leaves (digits-leaves 3 s) λ n r. give-leaves r
 
-pub slot-leaves : (s : List ℕ) → Leaves s (slot character s)
+pub slot-leaves : (s : List ℕ) → Leaves s (slot utf8 s)
 unfolding slot
 slot-leaves s = then-leaves (first-leaves _ s) λ t r. then-leaves (ignored-leaves r) λ u q. then-leaves (byte-leaves _ q) λ u z. give-leaves z
 
@@ -39,7 +39,7 @@ pub position-leaves : (s : List ℕ) → Leaves s (optionalPosition s)
 unfolding optionalPosition
 position-leaves s = after-leaves _ _ _ s λ r. in-leaves _ _ _ r
 
-pub st-or-a-leaves : (st : Bool) (s : List ℕ) → Leaves s (stOrA character st s)
+pub st-or-a-leaves : (st : Bool) (s : List ℕ) → Leaves s (stOrA utf8 st s)
 unfolding stOrA
 st-or-a-leaves true s = then-leaves (letter-leaves _ s) λ u r. then-leaves (letter-leaves _ r) λ u q. give-leaves q
 st-or-a-leaves false s = then-leaves (letter-leaves _ s) λ u r. give-leaves r

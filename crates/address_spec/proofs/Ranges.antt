@@ -12,8 +12,8 @@ use lib.ListN.{length}
 use Rattle.base.proofs.EveryPlace.{both}
 use Rattle.file_type.specs.declared.FileType.{FileType}
 use Rattle.file_type.specs.declared.FileType.the-variants.{O, I, S, B, T, C, R, N, F, ST, A, L, MG, PD, PLS}
-use Rattle.parser_spec.specs.Parts.{Part, digitsIn}
-use Rattle.parser_spec.specs.Characters.{character, wellFormed}
+use Rattle.parser_spec.specs.Parts.{digitsIn}
+use Rattle.parser_spec.specs.Characters.{wellFormed, Alphabet, utf8}
 use Rattle.parser_spec.proofs.Characters.{first-held}
 use Rattle.parser_spec.proofs.Held.{Holds, that, and-next, and-any, held-of, whole-some, after-held, here-held, in-held, one-or-two-held}
 use Rattle.address_spec.specs.Elements.{Elements, elementsOf, filed, slotted, allowed, spellable}
@@ -43,9 +43,9 @@ position-held s = after-held 46 (digitsIn 3 0 999) 0 s (in-held 3 0 999) (omega 
 abbrev Slotted : FileType × ℕ → Type 0
 Slotted t = (e p n : ℕ) → e ≤ 255 → p ≤ 999 → spellable (elements (t .0) (t .1) e p n) ≡ true
 
-slot-held : (char : Part ℕ) (s : List ℕ) → Holds (λ (t : FileType × ℕ) (r : List ℕ). Slotted t) (slot char s)
+slot-held : (alphabet : Alphabet) (s : List ℕ) → Holds (λ (t : FileType × ℕ) (r : List ℕ). Slotted t) (slot alphabet s)
 unfolding slot spellable
-slot-held char s = and-next (first-held char Slotted slots (each, (each, tt)) s) λ t r h. and-any _ λ _ r. and-any _ λ _ r. that h
+slot-held alphabet s = and-next (first-held alphabet Slotted slots (each, (each, tt)) s) λ t r h. and-any _ λ _ r. and-any _ λ _ r. that h
   where
     each : (e p n : ℕ) → e ≤ 255 → p ≤ 999 → (leb e 255 && leb p 999) ≡ true
     each e p n u v = rw (le-leb e 255 u, le-leb p 999 v)
@@ -70,30 +70,30 @@ abbrev Count : Bool → ℕ → Type 0
 Count true n = (1 ≤ n) × (n ≤ 2)
 Count false n = Unit {0}
 
--- ---- the forms, however a character is read
-module _ (char : Part ℕ) (tag : List ℕ) (x : Address) where
-  ct-can : (separator : ℕ → Bool) → ct char separator tag ≡ some x → CanSpell x
+-- ---- the forms, of any alphabet
+module _ (alphabet : Alphabet) (tag : List ℕ) (x : Address) where
+  ct-can : (separator : ℕ → Bool) → ct alphabet separator tag ≡ some x → CanSpell x
   unfolding ct spellable
   ct-can separator k =
-      held-of {P = Can} (and-next (first-held char (Filed One) _ (timed C, (timed T, tt)) tag) λ t r h. and-next (file-held 58 r) λ f r u.
+      held-of {P = Can} (and-next (first-held alphabet (Filed One) _ (timed C, (timed T, tt)) tag) λ t r h. and-next (file-held 58 r) λ f r u.
       and-any _ λ y r. and-next (here-held (leb (y .0) 255) r) λ _ r v. that (h f (y .0) 1 (u .0) (u .1) (leb-true _ _ (v .0)) refl)) (whole-some _ tag x k)
 
-  lfbn-can : lfbn char tag ≡ some x → CanSpell x
+  lfbn-can : lfbn alphabet tag ≡ some x → CanSpell x
   unfolding lfbn spellable
   lfbn-can k =
-      held-of {P = Can} (and-next (first-held char (Filed Any) _ (each L, (each F, (each B, (each N, tt)))) tag) λ t r h. and-next (file-held 58 r) λ f r u.
+      held-of {P = Can} (and-next (first-held alphabet (Filed Any) _ (each L, (each F, (each B, (each N, tt)))) tag) λ t r h. and-next (file-held 58 r) λ f r u.
       and-next (in-held 3 0 255 r) λ e r v. and-any _ λ y r. that (h f e (y .1) (u .0) (u .1) (v .1) tt)) (whole-some _ tag x k)
     where
       each : (t : FileType) (f e n : ℕ) → 1 ≤ f → f ≤ 255 → e ≤ 255 → Unit {0} → filed (elements t f e 0 n) ≡ true
       each t f e n l u v w = filed-yes t f e n l u v
 
-  io-can : io char tag ≡ some x → CanSpell x
+  io-can : io alphabet tag ≡ some x → CanSpell x
   unfolding io
   io-can k =
-      held-of {P = Can} (and-next (slot-held char tag) λ t r h. and-next (in-held 3 0 255 r) λ e r u. and-next (position-held r) λ p r v.
+      held-of {P = Can} (and-next (slot-held alphabet tag) λ t r h. and-next (in-held 3 0 255 r) λ e r u. and-next (position-held r) λ p r v.
       and-any _ λ y r. that (h e p (y .1) (u .1) (v .1))) (whole-some _ tag x k)
 
-  st-can : sta char true tag ≡ some x → CanSpell x
+  st-can : sta alphabet true tag ≡ some x → CanSpell x
   unfolding sta stOrA spellable
   st-can k =
       held-of {P = Can} (and-next (st-held tag) λ t r h. and-next (file-held 58 r) λ f r u. and-next (in-held 4 0 255 r) λ e r v.
@@ -102,25 +102,25 @@ module _ (char : Part ℕ) (tag : List ℕ) (x : Address) where
       each : (f e n : ℕ) → 1 ≤ f → f ≤ 255 → e ≤ 255 → Count true n → (filed (elements ST f e 0 n) && (leb 1 n && leb n 2)) ≡ true
       each f e n l u v w = rw (le-leb 1 f l, le-leb f 255 u, le-leb e 255 v, le-leb 1 n (w .0), le-leb n 2 (w .1))
 
-      st-held : (s : List ℕ) → Holds (λ (t : FileType) (r : List ℕ). Filed (Count true) t) (stOrA char true s)
+      st-held : (s : List ℕ) → Holds (λ (t : FileType) (r : List ℕ). Filed (Count true) t) (stOrA alphabet true s)
       st-held s = and-any _ λ _ r. and-any _ λ _ r. that each
 
-  a-can : sta char false tag ≡ some x → CanSpell x
+  a-can : sta alphabet false tag ≡ some x → CanSpell x
   unfolding sta stOrA spellable
   a-can k =
       held-of {P = Can} (and-next (a-held tag) λ t r h. and-next (file-held 58 r) λ f r u. and-next (in-held 4 0 255 r) λ e r v.
       and-any _ λ n r. that (h f e n (u .0) (u .1) (v .1) tt)) (whole-some _ tag x k)
     where
-      a-held : (s : List ℕ) → Holds (λ (t : FileType) (r : List ℕ). Filed Any t) (stOrA char false s)
+      a-held : (s : List ℕ) → Holds (λ (t : FileType) (r : List ℕ). Filed Any t) (stOrA alphabet false s)
       a-held s = and-any _ λ _ r. that (λ f e n l u v w. filed-yes A f e n l u v)
 
-  s-can : status char tag ≡ some x → CanSpell x
+  s-can : status alphabet tag ≡ some x → CanSpell x
   unfolding status spellable
   s-can k =
       held-of {P = Can} (and-any _ λ _ r. and-any _ λ _ r. and-next (in-held 3 0 255 r) λ e r v. and-any _ λ y r.
       that (rw (le-leb e 255 (v .1)))) (whole-some _ tag x k)
 
-  b-can : bits char tag ≡ some x → CanSpell x
+  b-can : bits alphabet tag ≡ some x → CanSpell x
   unfolding bits spellable
   b-can k =
       held-of {P = Can} (and-any _ λ _ r. and-next (file-held 47 r) λ f r u. and-next (in-held 4 0 4095 r) λ y r v. and-any _ λ n r.
@@ -132,18 +132,18 @@ unfolding orTry
 or-can none z f g e = g e
 or-can (some v) z f g e = f e
 
-pub form-can : (char : Part ℕ) (separator : ℕ → Bool) (tag : List ℕ) (x : Address) → formOf char separator tag ≡ some x → CanSpell x
+pub form-can : (alphabet : Alphabet) (separator : ℕ → Bool) (tag : List ℕ) (x : Address) → formOf alphabet separator tag ≡ some x → CanSpell x
 unfolding formOf lastForms
-form-can char separator tag x =
-    or-can _ _ (ct-can char tag x separator) (or-can _ _ (lfbn-can char tag x) (or-can _ _ (io-can char tag x) (or-can _ _ (st-can char tag x) (or-can _ _ (a-can char tag x) (or-can _ _ (s-can char tag x) (b-can char tag x))))))
+form-can alphabet separator tag x =
+    or-can _ _ (ct-can alphabet tag x separator) (or-can _ _ (lfbn-can alphabet tag x) (or-can _ _ (io-can alphabet tag x) (or-can _ _ (st-can alphabet tag x) (or-can _ _ (a-can alphabet tag x) (or-can _ _ (s-can alphabet tag x) (b-can alphabet tag x))))))
+
+pub refused : {X : Type 0} {n : ℕ} {y : Address} → parsed.Refused n ≡ parsed.Is y → X
+refused e = absurd (let w : _≡_ {A = ℕ} 0 1 = cc in omega arith)
 
 pub can : (tag : List ℕ) (x : Address) → addressOf tag ≡ parsed.Is x → CanSpell x
 unfolding addressOf
-can tag x = go (leb (length tag) 255 && wellFormed tag) (formOf character separates tag) (form-can character separates tag x)
+can tag x = go (leb (length tag) 255 && wellFormed tag) (formOf utf8 separates tag) (form-can utf8 separates tag x)
   where
-    refused : {X : Type 0} {n : ℕ} {y : Address} → parsed.Refused n ≡ parsed.Is y → X
-    refused e = absurd (let w : _≡_ {A = ℕ} 0 1 = cc in omega arith)
-
     go : (t : Bool) (z : Option Address) → (z ≡ some x → CanSpell x) → cond t (accepted z) (parsed.Refused 1) ≡ parsed.Is x → CanSpell x
     go false z h q = refused q
     go true none h q = refused q

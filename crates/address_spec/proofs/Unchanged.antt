@@ -1,25 +1,26 @@
 -- For a tag of bytes below 128 every answer is document 01's.
-use Prim.Native.Nat.{ℕ, zero, suc, min, _-_}
+use Prim.Native.Nat.{ℕ, zero, suc, min, _-_, _<_}
 use Prim.Native.Char.{Char}
 use mathlib.Core.Path.{_≡_, refl, ap, ap₂, subst, _∙_}
 use mathlib.Core.List.{List, [], _∷_}
 use mathlib.Core.Option.{Option}
 use mathlib.Core.Bool.{Bool, true, false, _&&_, cond}
-use native.Mathlib.Omega.{arith}
 use borrow.Author.Tests.{ltb-true}
-use lib.Dec.{leb, ltb}
+use lib.Dec.{leb, ltb, eqb}
 use lib.ListN.{length, drop}
 use Rattle.base.proofs.EveryPlace.{both}
 use Rattle.parser_spec.specs.DecimalNumbers.{digitRun}
-use Rattle.parser_spec.specs.Parts.{Part, then, atEnd, orElse, ended, whole}
-use Rattle.parser_spec.specs.Characters.{table, characterIn, character, anyByte, characters, wellFormed, one, letterOf, firstOf}
+use Rattle.parser_spec.specs.Parts.{Part, then, atEnd, orElse, ended, whole, here, anyByte, one}
+use Rattle.parser_spec.specs.Characters.{table, characterIn, character, characters, wellFormed, utf8, bytewise, letterOf, firstOf}
 use Rattle.parser_spec.proofs.Held.{nothing, that}
-use Rattle.parser_spec.proofs.Behind.{Leaves}
-use Rattle.parser_spec.proofs.Characters.{small-character, formed-next, any-leaves, letter-by-leaves, first-by-leaves}
+use Rattle.parser_spec.proofs.Behind.{Leaves, any-leaves}
+use Rattle.parser_spec.proofs.Written.{behind-same}
+use Rattle.parser_spec.proofs.Characters.{small-character, small-capital, formed-next, letter-by-leaves, first-by-leaves}
 use Rattle.address_spec.specs.Spelling.{cut, cuts, elementName, ct, lfbn, slot, io, stOrA, sta, status, bits, orTry, lastForms, separates, formOf, accepted, ascii, addressOf, baseAddressOf, Unchanged}
 use Rattle.address_spec.specs.declared.Address.{Address}
 use Rattle.address_spec.specs.declared.Parsed.the-variants as parsed
 use Rattle.address_spec.proofs.PhrasesLeave.{file-leaves}
+use Rattle.address_spec.proofs.Ranges.{refused}
 
 -- ---- what stands behind a part has bytes below 128 too
 rest : (k : ℕ) (s : List ℕ) → ascii s ≡ true → ascii (drop k s) ≡ true
@@ -28,15 +29,11 @@ rest zero s e = e
 rest (suc k) [] e = refl
 rest (suc k) (b ∷ s) e = rest k s (both (ltb b 128) (ascii s) e .1)
 
-module _ {A B : Type 0} where
-  first : {x y : Option (A × List ℕ)} (k : A → Part B) → x ≡ y → then x k ≡ then y k
-  first k p = ap (λ (z : Option (A × List ℕ)). then z k) p
-
 module _ {A B : Type 0} {s : List ℕ} (e : ascii s ≡ true) where
   -- two parts of which the first give the same, and what follows them too
   alike : {x y : Option (A × List ℕ)} {k l : A → Part B} → x ≡ y → Leaves s y → ((v : A) (r : List ℕ) → ascii r ≡ true → k v r ≡ l v r) → then x k ≡ then y l
   unfolding then
-  alike {k} {l} p h f = first k p ∙ go h
+  alike {k} {l} p h f = behind-same k p ∙ go h
     where
       go : {z : Option (A × List ℕ)} → Leaves s z → then z k ≡ then z l
       go nothing = refl
@@ -46,16 +43,22 @@ module _ {A B : Type 0} {s : List ℕ} (e : ascii s ≡ true) where
 one-alike : (test : ℕ → Bool) (s : List ℕ) → ascii s ≡ true → one character test s ≡ one anyByte test s
 unfolding one anyByte ascii characterIn table
 one-alike test [] e = refl
-one-alike test (b ∷ s) e = first _ (small-character b s (ltb-true b 128 (both (ltb b 128) (ascii s) e .0)))
+one-alike test (b ∷ s) e = behind-same _ (small-character b s (ltb-true b 128 (both (ltb b 128) (ascii s) e .0)))
 
-letter-alike : (v : ℕ) (s : List ℕ) → ascii s ≡ true → letterOf character v s ≡ letterOf anyByte v s
+-- a test that passes the same bytes below 128
+test-alike : (f g : ℕ → Bool) → ((x : ℕ) → x < 128 → f x ≡ g x) → (s : List ℕ) → ascii s ≡ true → one anyByte f s ≡ one anyByte g s
+unfolding one anyByte ascii then
+test-alike f g h [] e = refl
+test-alike f g h (b ∷ s) e = ap (λ (t : Bool). here t s) (h b (ltb-true b 128 (both (ltb b 128) (ascii s) e .0)))
+
+letter-alike : (v : ℕ) (s : List ℕ) → ascii s ≡ true → letterOf utf8 v s ≡ letterOf bytewise v s
 unfolding letterOf
-letter-alike v s e = one-alike _ s e
+letter-alike v s e = one-alike _ s e ∙ test-alike _ _ (λ x h. ap (λ (y : ℕ). eqb y v) (small-capital x h)) s e
 
-first-alike : {A : Type 0} (xs : List (Char × A)) (s : List ℕ) → ascii s ≡ true → firstOf character xs s ≡ firstOf anyByte xs s
+first-alike : {A : Type 0} (xs : List (Char × A)) (s : List ℕ) → ascii s ≡ true → firstOf utf8 xs s ≡ firstOf bytewise xs s
 unfolding firstOf
 first-alike [] s e = refl
-first-alike {A} (x ∷ xs) s e = ap₂ (orElse {A = A}) (first _ (letter-alike _ s e)) (first-alike xs s e)
+first-alike {A} (x ∷ xs) s e = ap₂ (orElse {A = A}) (behind-same _ (letter-alike _ s e)) (first-alike xs s e)
 
 -- ---- the forms
 module _ (separator : ℕ → Bool) where
@@ -64,39 +67,39 @@ module _ (separator : ℕ → Bool) where
   cuts-alike zero s e = refl
   cuts-alike (suc k) s e = simp (one-alike separator (drop (suc k) s) (rest (suc k) s e), cuts-alike k s e)
 
-  ct-alike : (tag : List ℕ) → ascii tag ≡ true → ct character separator tag ≡ ct anyByte separator tag
+  ct-alike : (tag : List ℕ) → ascii tag ≡ true → ct utf8 separator tag ≡ ct bytewise separator tag
   unfolding ct whole elementName
   ct-alike tag e =
-      ap ended (alike e (first-alike _ tag e) (first-by-leaves anyByte any-leaves _ tag) λ t r a. alike a refl (file-leaves _ r) λ f q b.
-      first _ (cuts-alike (min (digitRun q) 3) q b))
+      ap ended (alike e (first-alike _ tag e) (first-by-leaves bytewise any-leaves _ tag) λ t r a. alike a refl (file-leaves _ r) λ f q b.
+      behind-same _ (cuts-alike (min (digitRun q) 3) q b))
 
 module _ (tag : List ℕ) (e : ascii tag ≡ true) where
-  lfbn-alike : lfbn character tag ≡ lfbn anyByte tag
+  lfbn-alike : lfbn utf8 tag ≡ lfbn bytewise tag
   unfolding lfbn whole
-  lfbn-alike = ap ended (first _ (first-alike _ tag e))
+  lfbn-alike = ap ended (behind-same _ (first-alike _ tag e))
 
-  io-alike : io character tag ≡ io anyByte tag
+  io-alike : io utf8 tag ≡ io bytewise tag
   unfolding io slot whole
-  io-alike = ap ended (first _ (first _ (first-alike _ tag e)))
+  io-alike = ap ended (behind-same _ (behind-same _ (first-alike _ tag e)))
 
-  st-alike : (st : Bool) → stOrA character st tag ≡ stOrA anyByte st tag
+  st-alike : (st : Bool) → stOrA utf8 st tag ≡ stOrA bytewise st tag
   unfolding stOrA
-  st-alike true = alike e (letter-alike _ tag e) (letter-by-leaves anyByte any-leaves _ tag) λ u r a. first _ (letter-alike _ r a)
-  st-alike false = first _ (letter-alike _ tag e)
+  st-alike true = alike e (letter-alike _ tag e) (letter-by-leaves bytewise any-leaves _ tag) λ u r a. behind-same _ (letter-alike _ r a)
+  st-alike false = behind-same _ (letter-alike _ tag e)
 
-  sta-alike : (st : Bool) → sta character st tag ≡ sta anyByte st tag
+  sta-alike : (st : Bool) → sta utf8 st tag ≡ sta bytewise st tag
   unfolding sta whole
-  sta-alike st = ap ended (first _ (st-alike st))
+  sta-alike st = ap ended (behind-same _ (st-alike st))
 
-  status-alike : status character tag ≡ status anyByte tag
+  status-alike : status utf8 tag ≡ status bytewise tag
   unfolding status whole
-  status-alike = ap ended (first _ (letter-alike _ tag e))
+  status-alike = ap ended (behind-same _ (letter-alike _ tag e))
 
-  bits-alike : bits character tag ≡ bits anyByte tag
+  bits-alike : bits utf8 tag ≡ bits bytewise tag
   unfolding bits whole
-  bits-alike = ap ended (first _ (letter-alike _ tag e))
+  bits-alike = ap ended (behind-same _ (letter-alike _ tag e))
 
-  form-alike : (separator : ℕ → Bool) → formOf character separator tag ≡ formOf anyByte separator tag
+  form-alike : (separator : ℕ → Bool) → formOf utf8 separator tag ≡ formOf bytewise separator tag
   unfolding formOf lastForms
   form-alike separator =
       ap₂ orTry (ct-alike separator tag e) (ap₂ orTry lfbn-alike (ap₂ orTry io-alike (ap₂ orTry (sta-alike true) (ap₂ orTry (sta-alike false) (ap₂ orTry status-alike bits-alike)))))
@@ -118,7 +121,7 @@ pub stays : (tag : List ℕ) (x : Address) → baseAddressOf tag ≡ parsed.Is x
 unfolding baseAddressOf
 stays tag x e = go (leb (length tag) 255) (ascii tag) refl e
   where
-    go : (l t : Bool) → ascii tag ≡ t → cond (l && t) (accepted (formOf anyByte separates tag)) (parsed.Refused 1) ≡ parsed.Is x → addressOf tag ≡ parsed.Is x
+    go : (l t : Bool) → ascii tag ≡ t → cond (l && t) (accepted (formOf bytewise separates tag)) (parsed.Refused 1) ≡ parsed.Is x → addressOf tag ≡ parsed.Is x
     go l true a q = unchanged tag a ∙ e
-    go true false a q = absurd (let w : _≡_ {A = ℕ} 0 1 = cc in omega arith)
-    go false false a q = absurd (let w : _≡_ {A = ℕ} 0 1 = cc in omega arith)
+    go true false a q = refused q
+    go false false a q = refused q

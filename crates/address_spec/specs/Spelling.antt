@@ -1,5 +1,5 @@
--- The address spelling (document 01, "Address spelling"; document 02, A2), form by form, and questions 1 and 2. `char` reads a character: by UTF-8, or, as
--- document 01 has it, a byte.
+-- The address spelling (document 01, "Address spelling"; document 02, A2), form by form, and questions 1 and 2, over what is read as a character and as a letter:
+-- A2's alphabet, or document 01's.
 use Prim.Native.Nat.{ℕ, zero, suc, min, _/_, _%_}
 use Prim.Native.Char.{Char, code}
 use Prim.Native.String.{String}
@@ -13,8 +13,8 @@ use Rattle.base.specs.Chars.{bytes, spelled}
 use Rattle.file_type.specs.declared.FileType.{FileType}
 use Rattle.file_type.specs.declared.FileType.the-variants.{O, I, S, B, T, C, N, F, ST, A, L}
 use Rattle.parser_spec.specs.DecimalNumbers.{digitRun, numberOf}
-use Rattle.parser_spec.specs.Parts.{Part, then, _>>=_, _>>_, give, here, orElse, whole, byte, sign, digits, digitsIn, after, count, countOf, before}
-use Rattle.parser_spec.specs.Characters.{character, anyByte, wellFormed, one, letter, firstOf}
+use Rattle.parser_spec.specs.Parts.{Part, then, _>>=_, _>>_, give, here, orElse, whole, one, byte, sign, digits, digitsIn, after, count, countOf, before}
+use Rattle.parser_spec.specs.Characters.{wellFormed, Alphabet, utf8, bytewise, letter, firstOf}
 use Rattle.address_spec.specs.declared.Maybe.{Maybe}
 use Rattle.address_spec.specs.declared.Maybe.the-variants.{Missing, Is}
 use Rattle.address_spec.specs.declared.Address.{Address}
@@ -93,12 +93,13 @@ module _ (char : Part ℕ) (separator : ℕ → Bool) where
   unfoldable pub elementName : Part (ℕ × ℕ)
   elementName s = cuts (min (digitRun s) 3) s
 
-  -- "C, T: file (1 to 3 digits), `:`, element (1 to 3 digits, longest cut first), one byte that isn't a newline, then exactly one name, no count"
+module _ (alphabet : Alphabet) (separator : ℕ → Bool) where
+  -- "C, T: file (1 to 3 digits), `:`, element (1 to 3 digits, longest cut first), one byte that isn't a newline, then exactly one name, no count"; A2: one character
   unfoldable pub ct : List ℕ → Option Address
   ct tag = whole (do
-    t ← firstOf char (("C", C) ∷ ("T", T) ∷ [])
+    t ← firstOf alphabet (("C", C) ∷ ("T", T) ∷ [])
     f ← fileThen ":"
-    x ← elementName
+    x ← elementName (alphabet .char) separator
     here (leb (x .0) 255)
     give (address t f (x .0) Missing (Is (x .1)) true 1 (length tag))) tag
 
@@ -124,18 +125,18 @@ unfoldable pub orTry : Option Address → Option Address → Option Address
 orTry none q = q
 orTry (some x) q = some x
 
-module _ (char : Part ℕ) where
+module _ (alphabet : Alphabet) where
   -- "L, F, B, N: file, `:`, element (3 digits at most), optional `/`bit (2 at most), count."
   unfoldable pub lfbn : List ℕ → Option Address
   lfbn tag = whole (do
-    t ← firstOf char (("L", L) ∷ ("F", F) ∷ ("B", B) ∷ ("N", N) ∷ [])
+    t ← firstOf alphabet (("L", L) ∷ ("F", F) ∷ ("B", B) ∷ ("N", N) ∷ [])
     f ← fileThen ":"
     e ← element
     x ← bitCount
     give (address t f e Missing (x .0) (present (x .0)) (x .1) (before "{" tag))) tag
 
   unfoldable pub slot : Part (FileType × ℕ)
-  slot = do t ← firstOf char slots; ignored; sign ":"; give t
+  slot = do t ← firstOf alphabet slots; ignored; sign ":"; give t
 
   -- "I, O: optional number of 1 to 3 digits, ignored; `:`, element, optional `.`position (0 to 999), optional `/`bit, count."; "sub-element is missing without a bit or name, but 0 on I and O"
   unfoldable pub io : List ℕ → Option Address
@@ -148,8 +149,8 @@ module _ (char : Part ℕ) where
 
   -- "ST, A: file, `:`, element (4 digits at most), count."; "ST takes only {1} or {2}"
   unfoldable pub stOrA : Bool → Part FileType
-  stOrA true = do letter char "S"; letter char "T"; give ST
-  stOrA false = do letter char "A"; give A
+  stOrA true = do letter alphabet "S"; letter alphabet "T"; give ST
+  stOrA false = do letter alphabet "A"; give A
 
   unfoldable pub sta : Bool → List ℕ → Option Address
   sta st tag = whole (do
@@ -162,7 +163,7 @@ module _ (char : Part ℕ) where
   -- "S: `:`, element, optional `/`bit, count. File 2."
   unfoldable pub status : List ℕ → Option Address
   status tag = whole (do
-    letter char "S"
+    letter alphabet "S"
     sign ":"
     e ← element
     x ← bitCount
@@ -171,7 +172,7 @@ module _ (char : Part ℕ) where
   -- "B: file, `/`, bit 0 to 4095 (4 digits at most), count; element is bit / 16, bit is the remainder."
   unfoldable pub bits : List ℕ → Option Address
   bits tag = whole (do
-    letter char "B"
+    letter alphabet "B"
     f ← fileThen "/"
     x ← digitsIn 4 0 4095
     n ← count
@@ -182,7 +183,7 @@ module _ (char : Part ℕ) where
   lastForms tag = orTry (sta true tag) (orTry (sta false tag) (orTry (status tag) (bits tag)))
 
   unfoldable pub formOf : (ℕ → Bool) → List ℕ → Option Address
-  formOf separator tag = orTry (ct char separator tag) (orTry (lfbn tag) (orTry (io tag) (lastForms tag)))
+  formOf separator tag = orTry (ct alphabet separator tag) (orTry (lfbn tag) (orTry (io tag) (lastForms tag)))
 
 -- ---- questions 1 and 2
 abbrev pub accepted : Option Address → Parsed
@@ -191,15 +192,15 @@ accepted (some x) = parsed.Is x
 
 -- A2: "a tag is well-formed UTF-8 of at most 255 bytes"; "1 now means longer than 255 bytes or not well-formed"; document 01: "2. Does `parse_tag` accept it? no: 2"
 unfoldable pub addressOf : List ℕ → Parsed
-addressOf tag = cond (leb (length tag) 255 && wellFormed tag) (accepted (formOf character separates tag)) (parsed.Refused 1)
+addressOf tag = cond (leb (length tag) 255 && wellFormed tag) (accepted (formOf utf8 separates tag)) (parsed.Refused 1)
 
--- document 01's own answer: "1. Is the tag at most 255 bytes, each below 128? no: 1"
+-- document 01's own answer: "1. Is the tag at most 255 bytes, each below 128? .. no: 1"
 unfoldable pub ascii : List ℕ → Bool
 ascii [] = true
 ascii (x ∷ r) = ltb x 128 && ascii r
 
 unfoldable pub baseAddressOf : List ℕ → Parsed
-baseAddressOf tag = cond (leb (length tag) 255 && ascii tag) (accepted (formOf anyByte separates tag)) (parsed.Refused 1)
+baseAddressOf tag = cond (leb (length tag) 255 && ascii tag) (accepted (formOf bytewise separates tag)) (parsed.Refused 1)
 
 -- for a tag of bytes below 128 every answer is document 01's
 abbrev pub Unchanged : Type 0

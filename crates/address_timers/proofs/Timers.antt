@@ -4,7 +4,7 @@ use Prim.Native.String.{String}
 use mathlib.Core.Path.{_≡_, refl, ap, ap₂, sym, _∙_}
 use mathlib.Core.List.{List, [], _∷_}
 use mathlib.Core.Option.{Option, none, some}
-use mathlib.Core.Bool.{Bool, true, false, not, _&&_, cond}
+use mathlib.Core.Bool.{Bool, true, false, not, _&&_, cond, and-true, and-assoc}
 use native.Mathlib.Nat.{not-suc-le-zero, add-sub-cancel-left}
 use native.Mathlib.Omega.{arith}
 use borrow.Author.Tests.{eqb-true, eqb-false, leb-true, ltb-true, eq-eqb, ne-eqb, not-true, not-false}
@@ -15,20 +15,22 @@ use Rattle.base.specs.Chars.{bytes, upper, spelled}
 use Rattle.base.proofs.Chars.{spelled-short}
 use Rattle.base.proofs.EveryPlace.{both}
 use Rattle.base.proofs.Parts.{two-of, three-of}
+use Rattle.base.proofs.Unmatched.{NoneOf, Unlike, unlike}
 use Rattle.parser_spec.specs.DecimalNumbers.{Run, numberOf}
-use Rattle.parser_spec.specs.Parts.{then, orElse}
-use Rattle.parser_spec.specs.Characters.{character, one}
-use Rattle.parser_spec.proofs.Characters.{character-leaves, one-leaves}
+use Rattle.parser_spec.specs.Parts.{then, orElse, one}
+use Rattle.parser_spec.specs.Characters.{character}
+use Rattle.parser_spec.proofs.Behind.{one-leaves}
+use Rattle.parser_spec.proofs.Characters.{character-leaves}
 use Rattle.parser_spec.proofs.Written.{step}
 use Rattle.parser.specs.CursorAnswers.{placed, eatenOf}
 use Rattle.parser.specs.declared.Cur.{Cur}
 use Rattle.parser.specs.declared.Eaten.{Eaten}
 use Rattle.parser.specs.declared.Eaten.the-variants as place
-use Rattle.parser.proofs.PartReaders.{Reads, some-eaten, stop-eaten}
+use Rattle.parser.proofs.PartReaders.{Reads, some-eaten, stop-eaten, one-none, one-is, one-not}
 use Rattle.parser_characters.specs.CharacterAnswers.{characterOf}
 use Rattle.parser_characters.specs.declared.ReadCharacter.{ReadCharacter}
 use Rattle.parser_characters.specs.declared.ReadCharacter.the-variants as read
-use Rattle.parser_characters.proofs.CharacterReaders.{small-is, small-not, one-is, one-not}
+use Rattle.parser_characters.proofs.CharacterReaders.{none-character, some-character, past-end, small-reads}
 use Rattle.address_spec.specs.ReaderAnswers.{maybeOf, namedOf}
 use Rattle.address_spec.specs.Spelling.{ctNames, nameIn, cut, cuts, elementName}
 use Rattle.address_spec.specs.declared.Maybe.{Maybe}
@@ -61,18 +63,10 @@ digit n m p q h k = go (eqb n m) refl (eqb p q) refl
     go true e false f = let x : n ≡ m = eqb-true n m e in ne-eqb _ _ (λ (z : n * 256 + p ≡ m * 256 + q). eqb-false p q f (omega arith))
     go false e u f = ne-eqb _ _ (λ (z : n * 256 + p ≡ m * 256 + q). eqb-false n m e (omega arith))
 
-and-assoc : (a b c : Bool) → ((a && b) && c) ≡ (a && (b && c))
-and-assoc true b c = refl
-and-assoc false b c = refl
-
 -- a text of the name's length spells it where the two numbers are the same
 by-number : (name s : List ℕ) (n m : ℕ) → length s ≡ length name → bytesOnly name ≡ true → Digits s → eqb (packed upper n s) (packed same m name) ≡ (eqb n m && spelled true name s)
 unfolding spelled
-by-number [] [] n m l h k = and-true (eqb n m)
-  where
-    and-true : (t : Bool) → t ≡ (t && true)
-    and-true true = refl
-    and-true false = refl
+by-number [] [] n m l h k = sym (and-true (eqb n m))
 by-number [] (b ∷ s) n m l h k = absurd (omega arith)
 by-number (a ∷ name) [] n m l h k = absurd (omega arith)
 by-number (a ∷ name) (b ∷ s) n m l h k =
@@ -116,19 +110,22 @@ module _ (s : List ℕ) (d : Digits s) (l k : ℕ) (e : length s ≡ l) (f : pac
   unfolding maybeOf
   no-name h = by-key ∙ h
 
--- a number that is none of these, as a `match` leaves it
-abbrev NoneOf : Type 0 → List ℕ → ℕ → Type 0
-NoneOf X [] k = X
-NoneOf X (v ∷ vs) k = NoneOf (X × (k ≡ v → ⊥)) vs k
+-- a number that is that of no name of so many letters
+abbrev keysOf : ℕ → List (String × ℕ) → List ℕ
+keysOf l [] = []
+keysOf l (x ∷ xs) = cond (eqb l (length (bytes (x .0)))) (packed same 0 (bytes (x .0)) ∷ keysOf l xs) (keysOf l xs)
 
-short-none : (k : ℕ) → NoneOf (Unit {0}) (0x454E ∷ 0x5454 ∷ 0x444E ∷ 0x4355 ∷ 0x4344 ∷ 0x4F56 ∷ 0x554E ∷ 0x5541 ∷ []) k → keyed 2 k ctNames ≡ none
-unfolding ctNames
-short-none k r =
-    rw (ne-eqb k 0x454E (r .0 .0 .0 .0 .0 .0 .0 .1), ne-eqb k 0x5454 (r .0 .0 .0 .0 .0 .0 .1), ne-eqb k 0x444E (r .0 .0 .0 .0 .0 .1), ne-eqb k 0x4355 (r .0 .0 .0 .0 .1), ne-eqb k 0x4344 (r .0 .0 .0 .1), ne-eqb k 0x4F56 (r .0 .0 .1), ne-eqb k 0x554E (r .0 .1), ne-eqb k 0x5541 (r .1))
+no-key : (l k : ℕ) (xs : List (String × ℕ)) → Unlike same (keysOf l xs) k → keyed l k xs ≡ none
+no-key l k [] h = refl
+no-key l k (x ∷ xs) h = go (eqb l (length (bytes (x .0)))) (no-key l k xs) h
+  where
+    go : (t : Bool) → (Unlike same (keysOf l xs) k → keyed l k xs ≡ none) → Unlike same (cond t (packed same 0 (bytes (x .0)) ∷ keysOf l xs) (keysOf l xs)) k
+        → cond (t && eqb k (packed same 0 (bytes (x .0)))) (some (x .1, [])) (keyed l k xs) ≡ none
+    go true f g = rw (ne-eqb k (packed same 0 (bytes (x .0))) (g .0)) (f (g .1))
+    go false f g = f g
 
-long-none : (k : ℕ) → NoneOf (Unit {0}) (0x505245 ∷ 0x414343 ∷ []) k → keyed 3 k ctNames ≡ none
-unfolding ctNames
-long-none k r = rw (ne-eqb k 0x505245 (r .0 .1), ne-eqb k 0x414343 (r .1))
+abbrev pub NoName : ℕ → ℕ → Type 0
+NoName l k = NoneOf same (Unit {0}) (keysOf l ctNames) k
 
 -- texts of any other length
 abbrev twoOrThree : List (String × ℕ) → Bool
@@ -161,34 +158,41 @@ module _ (a b x y : ℕ) (e : x ≡ upper a) (f : y ≡ upper b) (h : x < 256) (
   pub short-is : (v : ℕ) → keyed 2 k ctNames ≡ some (v, []) → nameIn ctNames (a ∷ b ∷ []) ≡ maybeOf (maybe.Is v)
   short-is v q = is-name (a ∷ b ∷ []) (omega arith, (omega arith, tt)) 2 k refl (omega arith) v q
 
-  pub short-not : NoneOf (Unit {0}) (0x454E ∷ 0x5454 ∷ 0x444E ∷ 0x4355 ∷ 0x4344 ∷ 0x4F56 ∷ 0x554E ∷ 0x5541 ∷ []) k → nameIn ctNames (a ∷ b ∷ []) ≡ maybeOf maybe.Missing
-  short-not r = no-name (a ∷ b ∷ []) (omega arith, (omega arith, tt)) 2 k refl (omega arith) (short-none k r)
+  pub short-not : NoName 2 k → nameIn ctNames (a ∷ b ∷ []) ≡ maybeOf maybe.Missing
+  short-not r = no-name (a ∷ b ∷ []) (omega arith, (omega arith, tt)) 2 k refl (omega arith) (no-key 2 k ctNames (unlike same (keysOf 2 ctNames) k r))
 
 module _ (a b c x y z : ℕ) (e : x ≡ upper a) (f : y ≡ upper b) (g : z ≡ upper c) (h : x < 256) (i : y < 256) (j : z < 256) (k : ℕ) (m : (x * 256 + y) * 256 + z ≡ k) where
   pub long-is : (v : ℕ) → keyed 3 k ctNames ≡ some (v, []) → nameIn ctNames (a ∷ b ∷ c ∷ []) ≡ maybeOf (maybe.Is v)
   long-is v q = is-name (a ∷ b ∷ c ∷ []) (omega arith, (omega arith, (omega arith, tt))) 3 k refl (omega arith) v q
 
-  pub long-not : NoneOf (Unit {0}) (0x505245 ∷ 0x414343 ∷ []) k → nameIn ctNames (a ∷ b ∷ c ∷ []) ≡ maybeOf maybe.Missing
-  long-not r = no-name (a ∷ b ∷ c ∷ []) (omega arith, (omega arith, (omega arith, tt))) 3 k refl (omega arith) (long-none k r)
+  pub long-not : NoName 3 k → nameIn ctNames (a ∷ b ∷ c ∷ []) ≡ maybeOf maybe.Missing
+  long-not r = no-name (a ∷ b ∷ c ∷ []) (omega arith, (omega arith, (omega arith, tt))) 3 k refl (omega arith) (no-key 3 k ctNames (unlike same (keysOf 3 ctNames) k r))
 
 -- ---- the separator
 module _ (test : ℕ → Bool) (s : List ℕ) (i : ℕ) where
   abbrev found : Eaten
   found = eatenOf (placed i s (one character test (drop i s)))
 
+  pub sign-end : length s ≤ i → place.No ≡ found
+  sign-end h = one-none character test s i (past-end s i h)
+
   module _ (t : Bool) (h : i < length s) (l : getD s i 0 < 128) (e : t ≡ test (getD s i 0)) where
     pub sign-here : not t ≡ false → place.At (record { i = i + 1 }) ≡ found
-    sign-here n = small-is s i test h l (sym e ∙ not-false t n)
+    sign-here n = one-is character test s i _ (record { i = i + 1 }) (small-reads s i h l) (sym e ∙ not-false t n)
 
     pub sign-not : not t ≡ true → place.No ≡ found
-    sign-not n = small-not s i test h l (sym e ∙ not-true t n)
+    sign-not n = one-not character test s i _ (record { i = i + 1 }) (small-reads s i h l) (sym e ∙ not-true t n)
 
-  module _ (t : Bool) (x : ℕ) (c : Cur) (r : ReadCharacter) (e : r ≡ characterOf (placed i s (character (drop i s)))) (g : r ≡ read.Got x c) (f : t ≡ test x) where
-    pub sign-is : not t ≡ false → place.At c ≡ found
-    sign-is n = one-is s i test r e x c g (sym f ∙ not-false t n)
+  module _ (r : ReadCharacter) (e : r ≡ characterOf (placed i s (character (drop i s)))) where
+    pub sign-none : r ≡ read.No → place.No ≡ found
+    sign-none g = one-none character test s i (none-character s i r e g)
 
-    pub sign-isn't : not t ≡ true → place.No ≡ found
-    sign-isn't n = one-not s i test r e x c g (sym f ∙ not-true t n)
+    module _ (t : Bool) (x : ℕ) (c : Cur) (g : r ≡ read.Got x c) (f : t ≡ test x) where
+      pub sign-is : not t ≡ false → place.At c ≡ found
+      sign-is n = one-is character test s i x c (some-character s i r e x c g) (sym f ∙ not-false t n)
+
+      pub sign-isn't : not t ≡ true → place.No ≡ found
+      sign-isn't n = one-not character test s i x c (some-character s i r e x c g) (sym f ∙ not-true t n)
 
 -- ---- an element, a separator and a name
 tail-is : (s : List ℕ) (f : ℕ) → take (length s - f) (drop f s) ≡ drop f s

@@ -4,3 +4,4 @@ pub mod Numbers
 pub mod Parts
 pub mod Put
 pub mod EveryPlace
+pub mod Unmatched

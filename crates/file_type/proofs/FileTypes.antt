@@ -7,6 +7,7 @@ use borrow.Author.Tests.{ltb-true, leb-true, ne-eqb}
 use lib.Dec.{leb, ltb, eqb, lit≤}
 use lib.ListN.{getD}
 use Rattle.base.proofs.EveryPlace.{everyBelow, at-place}
+use Rattle.base.proofs.Unmatched.{NoneOf, Unlike, unlike}
 use Rattle.file_type.specs.declared.FileType.{FileType}
 use Rattle.file_type.specs.declared.FileType.the-variants.{O, I, S, B, T, C, R, N, F, ST, A, L, MG, PD, PLS}
 use Rattle.file_type.specs.declared.Known.the-variants as known
@@ -66,21 +67,18 @@ own-code PLS = refl
 pub has-code : (t : FileType) (c : ℕ) → c ≡ row t .code → known.Is t ≡ ofCode c
 has-code t c e = own-code t ∙ ap ofCode (sym e)
 
--- a code that is none of theirs, beside what else is known, as a `match` leaves it
-abbrev pub NoneOf : Type 0 → List FileType → ℕ → Type 0
-NoneOf X [] c = X
-NoneOf X (t ∷ ts) c = NoneOf (X × (c ≡ row t .code → ⊥)) ts c
+-- a code that is none of theirs
+abbrev codeOf : FileType → ℕ
+codeOf t = row t .code
 
-none-passes : (X : Type 0) (ts : List FileType) (c : ℕ) → NoneOf X ts c → X × (known.Unknown ≡ first (λ (t : FileType). eqb (row t .code) c) ts)
+none-passes : (ts : List FileType) (c : ℕ) → Unlike codeOf ts c → known.Unknown ≡ first (λ (t : FileType). eqb (row t .code) c) ts
 unfolding first
-none-passes X [] c h = (h, refl)
-none-passes X (t ∷ ts) c h =
-    let r : (X × (c ≡ row t .code → ⊥)) × (known.Unknown ≡ first (λ (t : FileType). eqb (row t .code) c) ts) = none-passes (X × (c ≡ row t .code → ⊥)) ts c h in
-    (r .0 .0, rw (ne-eqb (row t .code) c (λ (e : row t .code ≡ c). r .0 .1 (sym e))) (r .1))
+none-passes [] c h = refl
+none-passes (t ∷ ts) c h = rw (ne-eqb (row t .code) c (λ (e : row t .code ≡ c). h .0 (sym e))) (none-passes ts c (h .1))
 
-pub no-code : (c : ℕ) → NoneOf (Unit {0}) all c → known.Unknown ≡ ofCode c
+pub no-code : (c : ℕ) → NoneOf codeOf (Unit {0}) all c → known.Unknown ≡ ofCode c
 unfolding ofCode
-no-code c h = none-passes (Unit {0}) all c h .1
+no-code c h = none-passes all c (unlike codeOf all c h)
 
 -- the code's table of names
 abbrev texts : List (List ℕ)

@@ -13,8 +13,8 @@ use lib.ListN.{length, take, drop, getD, drop-of-length-le, length-drop}
 use lib.Seq.{drop-drop}
 use Rattle.base.proofs.Parts.{drop-next}
 use Rattle.parser_spec.specs.DecimalNumbers.{digitRun, Run, numberOf}
-use Rattle.parser_spec.specs.Parts.{Part, then, atEnd, here, oneByte, byte, numeral, digits, digitsIn, afterByte, countNumber}
-use Rattle.parser_spec.specs.Characters.{character, letter, firstOf}
+use Rattle.parser_spec.specs.Parts.{Part, then, atEnd, here, anyByte, one, byte, numeral, digits, digitsIn, afterByte, countNumber}
+use Rattle.parser_spec.specs.Characters.{utf8, letter, firstOf}
 use Rattle.parser_spec.proofs.Held.{nothing, that, no-some}
 use Rattle.parser_spec.proofs.Behind.{Leaves, byte-leaves, numeral-leaves, digits-leaves, in-leaves, number-leaves, count-leaves}
 use Rattle.parser_spec.proofs.Characters.{letter-leaves, first-leaves, first-read, first-past}
@@ -41,6 +41,9 @@ pub record Reads {A : Type 0} (s : List ℕ) (i : ℕ) (x : Option (A × List �
 module _ (s : List ℕ) (i : ℕ) where
   pub stay : Onward s i i
   stay = record { end = refl }
+
+  pub next-on : i < length s → Onward s i (i + 1)
+  next-on h = record { end = omega arith }
 
   pub came : {A : Type 0} (j k : ℕ) (x : Option (A × List ℕ)) (v : A) → Reads s j x v k → Onward s i j → Onward s i k
   came j k x v h o = record { end = h .on .end ∙ o .end }
@@ -164,36 +167,39 @@ module _ (s : List ℕ) (i : ℕ) (x : Option (ℕ × List ℕ)) (r : ReadWord) 
   pub some-word : (n : ℕ) (c : Cur) → r ≡ word.Got n c → Leaves (drop i s) x → Reads s i x n (c .i)
   some-word n c g l = gave-some readWordOf wordAt word-told s i x r e n (c .i) (ap wordAt g) l
 
+-- ---- one that passes a test, by what `char` read
+module _ (char : Part ℕ) (test : ℕ → Bool) (s : List ℕ) (i : ℕ) where
+  pub one-none : char (drop i s) ≡ none → place.No ≡ eatenOf (placed i s (one char test (drop i s)))
+  unfolding one
+  one-none e = no-place s i _ (stop _ e)
+
+  module _ (x : ℕ) (c : Cur) (h : Reads s i (char (drop i s)) x (c .i)) where
+    pub one-is : test x ≡ true → place.At c ≡ eatenOf (placed i s (one char test (drop i s)))
+    unfolding one here
+    one-is e = a-place s i _ c (step _ (h .is) ∙ rw e) (h .on)
+
+    pub one-not : test x ≡ false → place.No ≡ eatenOf (placed i s (one char test (drop i s)))
+    unfolding one here
+    one-not e = no-place s i _ (step _ (h .is) ∙ rw e)
+
 -- ---- one byte
-module _ (test : ℕ → Bool) (s : List ℕ) (i : ℕ) where
-  pub one-end : length s ≤ i → oneByte test (drop i s) ≡ none
-  unfolding oneByte
-  one-end h = rw (drop-of-length-le s h)
-
-  pub one-at : i < length s → (t : Bool) → test (getD s i 0) ≡ t → oneByte test (drop i s) ≡ here t (drop (i + 1) s)
-  unfolding oneByte
-  one-at h t e = rw (drop-next s i h, e)
-
-  one-eaten : i < length s → test (getD s i 0) ≡ true → place.At (record { i = i + 1 }) ≡ eatenOf (placed i s (oneByte test (drop i s)))
-  unfolding here
-  one-eaten h e = a-place s i _ (record { i = i + 1 }) (one-at h true e) (record { end = omega arith })
-
-  one-not : i < length s → test (getD s i 0) ≡ false → place.No ≡ eatenOf (placed i s (oneByte test (drop i s)))
-  unfolding here
-  one-not h e = no-place s i _ (one-at h false e)
-
 module _ (s : List ℕ) (i v : ℕ) where
   pub byte-end : length s ≤ i → place.No ≡ eatenOf (placed i s (byte v (drop i s)))
-  unfolding byte
-  byte-end h = no-place s i _ (one-end _ s i h)
+  unfolding byte anyByte
+  byte-end h = one-none anyByte _ s i (rw (drop-of-length-le s h))
 
-  pub byte-here : i < length s → getD s i 0 ≡ v → place.At (record { i = i + 1 }) ≡ eatenOf (placed i s (byte v (drop i s)))
-  unfolding byte
-  byte-here h e = one-eaten _ s i h (eq-eqb _ _ e)
+  module _ (h : i < length s) where
+    any-here : Reads s i (anyByte (drop i s)) (getD s i 0) (i + 1)
+    unfolding anyByte
+    any-here = record { is = rw (drop-next s i h); on = next-on s i h }
 
-  pub byte-not : i < length s → (getD s i 0 ≡ v → ⊥) → place.No ≡ eatenOf (placed i s (byte v (drop i s)))
-  unfolding byte
-  byte-not h e = one-not _ s i h (ne-eqb _ _ e)
+    pub byte-here : getD s i 0 ≡ v → place.At (record { i = i + 1 }) ≡ eatenOf (placed i s (byte v (drop i s)))
+    unfolding byte
+    byte-here e = one-is anyByte _ s i _ (record { i = i + 1 }) any-here (eq-eqb _ _ e)
+
+    pub byte-not : (getD s i 0 ≡ v → ⊥) → place.No ≡ eatenOf (placed i s (byte v (drop i s)))
+    unfolding byte
+    byte-not e = one-not anyByte _ s i _ (record { i = i + 1 }) any-here (ne-eqb _ _ e)
 
 -- ---- numbers
 module _ (s : List ℕ) (i n : ℕ) (run : Run s i n) where
@@ -273,14 +279,14 @@ module _ {A : Type 0} (s : List ℕ) (i : ℕ) where
     pub is-after : (c : Cur) (y : Option (A × List ℕ)) → r ≡ place.At c → p (drop (c .i) s) ≡ y → afterByte v p a (drop i s) ≡ y
     is-after c y g h = after-read v p a (drop i s) (some-eaten s i _ r e c g (byte-leaves v (drop i s)) .is) ∙ h
 
-  module _ (r : Eaten) (v : Char) (a : A) (xs : List (Char × A)) (e : r ≡ eatenOf (placed i s (letter character v (drop i s)))) where
-    pub first-is : (c : Cur) → r ≡ place.At c → firstOf character ((v, a) ∷ xs) (drop i s) ≡ some (a, drop (c .i) s)
-    first-is c g = first-read character v a xs (drop i s) (some-eaten s i _ r e c g (letter-leaves _ (drop i s)) .is)
+  module _ (r : Eaten) (v : Char) (a : A) (xs : List (Char × A)) (e : r ≡ eatenOf (placed i s (letter utf8 v (drop i s)))) where
+    pub first-is : (c : Cur) → r ≡ place.At c → firstOf utf8 ((v, a) ∷ xs) (drop i s) ≡ some (a, drop (c .i) s)
+    first-is c g = first-read utf8 v a xs (drop i s) (some-eaten s i _ r e c g (letter-leaves _ (drop i s)) .is)
 
-    pub first-not : (y : Option (A × List ℕ)) → r ≡ place.No → firstOf character xs (drop i s) ≡ y → firstOf character ((v, a) ∷ xs) (drop i s) ≡ y
-    first-not y g h = first-past character v a xs (drop i s) (none-eaten s i _ r e g) ∙ h
+    pub first-not : (y : Option (A × List ℕ)) → r ≡ place.No → firstOf utf8 xs (drop i s) ≡ y → firstOf utf8 ((v, a) ∷ xs) (drop i s) ≡ y
+    first-not y g h = first-past utf8 v a xs (drop i s) (none-eaten s i _ r e g) ∙ h
 
-  pub first-none : (t : List ℕ) → firstOf character {A = A} [] t ≡ none
+  pub first-none : (t : List ℕ) → firstOf utf8 {A = A} [] t ≡ none
   unfolding firstOf
   first-none t = refl
 
@@ -303,11 +309,11 @@ module _ (s : List ℕ) (i j : ℕ) (c : Cur) where
   came-word x r n g e l o = came s i j (c .i) x n (some-word s j x r e n c g l) o
 
 -- ---- a test
-pub here-yes : {A : Type 0} (t : Bool) (s : List ℕ) (k : Unit {0} → Part A) (y : Option (A × List ℕ)) → t ≡ true → k tt s ≡ y → then (here t s) k ≡ y
+here-yes : {A : Type 0} (t : Bool) (s : List ℕ) (k : Unit {0} → Part A) (y : Option (A × List ℕ)) → t ≡ true → k tt s ≡ y → then (here t s) k ≡ y
 unfolding then here
 here-yes t s k y e h = rw e h
 
-pub here-no : {A : Type 0} (t : Bool) (s : List ℕ) (k : Unit {0} → Part A) → t ≡ false → then (here t s) k ≡ none
+here-no : {A : Type 0} (t : Bool) (s : List ℕ) (k : Unit {0} → Part A) → t ≡ false → then (here t s) k ≡ none
 unfolding then here
 here-no t s k e = rw e
 

@@ -9,11 +9,12 @@ use borrow.Author.Tests.{le-leb, lt-leb, leb-true, leb-false, eq-eqb, ne-eqb}
 use lib.Dec.{leb, eqb}
 use lib.ListN.{length, drop, getD, drop-of-length-le, length-drop}
 use Rattle.base.specs.Chars.{upper}
+use Rattle.base.proofs.Chars.{letter-low, letter-high, letter-small}
 use Rattle.base.proofs.Parts.{drop-next}
-use Rattle.parser_spec.specs.Parts.{then, here, atEnd}
-use Rattle.parser_spec.specs.Characters.{Range, _to_, within, table, byteIn, bytesIn, pointIn, characterIn, character, wellFormed, one, capital, letterOf}
+use Rattle.parser_spec.specs.Parts.{then, here, atEnd, one}
+use Rattle.parser_spec.specs.Characters.{Range, _to_, within, table, byteIn, bytesIn, pointIn, characterIn, character, wellFormed, capital, utf8, letterOf}
 use Rattle.parser_spec.proofs.Held.{Holds, nothing, that, held-of}
-use Rattle.parser_spec.proofs.Characters.{byte-in-leaves, character-leaves, lead-read, rowAt, in-row, no-row, no-more, far, small-character, small-capital, formed-none, formed-next}
+use Rattle.parser_spec.proofs.Characters.{byte-in-leaves, character-leaves, lead-read, rowAt, in-row, no-row, no-more, far, small-character, other-capital, small-capital, formed-none, formed-next}
 use Rattle.parser_spec.proofs.Written.{step, stop}
 use Rattle.parser.specs.CursorAnswers.{placed, eatenOf, readWordOf}
 use Rattle.parser.specs.declared.Cur.{Cur}
@@ -21,7 +22,7 @@ use Rattle.parser.specs.declared.Eaten.{Eaten}
 use Rattle.parser.specs.declared.Eaten.the-variants as place
 use Rattle.parser.specs.declared.ReadWord.{ReadWord}
 use Rattle.parser.specs.declared.ReadWord.the-variants as word
-use Rattle.parser.proofs.PartReaders.{Reads, Onward, placed-at, placed-by, placed-on, gave-none, gave-some, some-word, stop-word, no-place, a-place, no-word, a-word}
+use Rattle.parser.proofs.PartReaders.{Reads, Onward, placed-at, placed-by, placed-on, next-on, gave-none, gave-some, some-word, stop-word, no-place, one-none, one-is, one-not, no-word, a-word}
 use Rattle.parser_characters.specs.CharacterAnswers.{characterOf}
 use Rattle.parser_characters.specs.declared.ReadCharacter.{ReadCharacter}
 use Rattle.parser_characters.specs.declared.ReadCharacter.the-variants as read
@@ -46,10 +47,10 @@ character-told none = refl
 character-told (some p) = refl
 
 module _ (s : List ℕ) (i : ℕ) (r : ReadCharacter) (e : r ≡ characterOf (placed i s (character (drop i s)))) where
-  none-character : r ≡ read.No → character (drop i s) ≡ none
+  pub none-character : r ≡ read.No → character (drop i s) ≡ none
   none-character g = gave-none characterOf characterAt character-told s i _ r e (ap characterAt g)
 
-  some-character : (x : ℕ) (c : Cur) → r ≡ read.Got x c → Reads s i (character (drop i s)) x (c .i)
+  pub some-character : (x : ℕ) (c : Cur) → r ≡ read.Got x c → Reads s i (character (drop i s)) x (c .i)
   some-character x c g = gave-some characterOf characterAt character-told s i _ r e x (c .i) (ap characterAt g) (character-leaves (drop i s))
 
 -- ---- a byte behind the first one
@@ -70,7 +71,7 @@ module _ (s : List ℕ) (i low high : ℕ) where
     byte-high l g = no-word s i _ (byte-there false (rw (le-leb _ _ l, lt-leb _ _ g)))
 
     pub byte-is : low ≤ getD s i 0 → getD s i 0 ≤ high → word.Got (getD s i 0 - low) (record { i = i + 1 }) ≡ readWordOf (placed i s (byteIn (low to high) (drop i s)))
-    byte-is l g = a-word s i _ (getD s i 0 - low) (record { i = i + 1 }) (byte-there true (rw (le-leb _ _ l, le-leb _ _ g))) (record { end = omega arith })
+    byte-is l g = a-word s i _ (getD s i 0 - low) (record { i = i + 1 }) (byte-there true (rw (le-leb _ _ l, le-leb _ _ g))) (next-on s i h)
 
 -- what follows a byte that stands there, or doesn't
 module _ (s : List ℕ) (i first n : ℕ) (r : Range) (rs : List Range) (w : ReadWord) (e : w ≡ readWordOf (placed i s (byteIn r (drop i s)))) where
@@ -89,20 +90,20 @@ unfolding pointIn bytesIn then
 last-byte s i first n r w e a c g = more-bytes s i first n r [] w e a c _ g (a-character s (c .i) _ (first + (n * 64 + a)) c refl (record { end = refl }))
 
 -- ---- the first byte, and its row
-small-read : (s : List ℕ) (i : ℕ) → i < length s → getD s i 0 < 128 → character (drop i s) ≡ some (getD s i 0, drop (i + 1) s)
-small-read s i h l = rw (drop-next s i h) (small-character _ _ l)
-
 module _ (s : List ℕ) (i : ℕ) where
-  pub character-end : length s ≤ i → read.No ≡ characterOf (placed i s (character (drop i s)))
+  pub past-end : length s ≤ i → character (drop i s) ≡ none
   unfolding characterIn table
-  character-end h = no-character s i _ (rw (drop-of-length-le s h))
+  past-end h = rw (drop-of-length-le s h)
+
+  pub small-reads : i < length s → getD s i 0 < 128 → Reads s i (character (drop i s)) (getD s i 0) (i + 1)
+  small-reads h l = record { is = rw (drop-next s i h) (small-character _ _ l); on = next-on s i h }
+
+  pub character-end : length s ≤ i → read.No ≡ characterOf (placed i s (character (drop i s)))
+  character-end h = no-character s i _ (past-end h)
 
   module _ (h : i < length s) where
-    onward : Onward s i (i + 1)
-    onward = record { end = omega arith }
-
     pub small : (b : ℕ) → b ≡ getD s i 0 → b < 128 → read.Got b (record { i = i + 1 }) ≡ characterOf (placed i s (character (drop i s)))
-    small b e l = rw e (a-character s i _ (getD s i 0) (record { i = i + 1 }) (small-read s i h (omega arith)) onward)
+    small b e l = let r = small-reads h (omega arith) in rw e (a-character s i _ (getD s i 0) (record { i = i + 1 }) (r .is) (r .on))
 
     pub between : 0x80 ≤ getD s i 0 → getD s i 0 < 0xC2 → read.No ≡ characterOf (placed i s (character (drop i s)))
     between l u = no-character s i _ (rw (drop-next s i h) (no-row _ _ l (omega arith)))
@@ -115,7 +116,7 @@ module _ (s : List ℕ) (i : ℕ) where
     by-row k n q l e u g =
         let m : getD s i 0 - rowAt k .lead .low ≡ n = omega arith in
         let z : character (drop i s) ≡ pointIn (rowAt k .first) n (rowAt k .trail) (drop (i + 1) s) = rw (drop-next s i h, in-row _ _ k l (omega arith) u, m) in
-        g ∙ ap characterOf (placed-on s i (i + 1) _ onward) ∙ rw z
+        g ∙ ap characterOf (placed-on s i (i + 1) _ (next-on s i h)) ∙ rw z
 
 -- ---- a text of characters
 module _ (s : List ℕ) (i : ℕ) (inv : wellFormed (drop i s) ≡ wellFormed s) where
@@ -125,7 +126,7 @@ module _ (s : List ℕ) (i : ℕ) (inv : wellFormed (drop i s) ≡ wellFormed s)
 
   module _ (h : i < length s) where
     pub formed-small : getD s i 0 < 128 → wellFormed (drop (i + 1) s) ≡ wellFormed s
-    formed-small l = sym (formed-next (drop i s) (getD s i 0) (drop (i + 1) s) (small-read s i h l)) ∙ inv
+    formed-small l = sym (formed-next (drop i s) (getD s i 0) (drop (i + 1) s) (small-reads s i h l .is)) ∙ inv
 
     module _ (r : ReadCharacter) (e : r ≡ characterOf (placed i s (character (drop i s)))) where
       pub formed-stop : r ≡ read.No → false ≡ wellFormed s
@@ -140,35 +141,6 @@ module _ (s : List ℕ) (i : ℕ) (inv : wellFormed (drop i s) ≡ wellFormed s)
           let q : characterIn table (getD s i 0 ∷ drop (i + 1) s) ≡ some (x, drop (c .i) s) = rw (drop-next s i h) at (some-character s i r e x c g .is) in
           omega (arith, held-of (lead-read table (getD s i 0) (drop (i + 1) s)) q .shorter, length-drop (c .i) s, length-drop (i + 1) s)
 
--- ---- one character that passes a test, or doesn't
-module _ (s : List ℕ) (i : ℕ) (test : ℕ → Bool) where
-  pub one-end : length s ≤ i → place.No ≡ eatenOf (placed i s (one character test (drop i s)))
-  unfolding one characterIn table
-  one-end h = no-place s i _ (stop _ (rw (drop-of-length-le s h)))
-
-  module _ (h : i < length s) (l : getD s i 0 < 128) where
-    pub small-is : test (getD s i 0) ≡ true → place.At (record { i = i + 1 }) ≡ eatenOf (placed i s (one character test (drop i s)))
-    unfolding one here
-    small-is e = a-place s i _ (record { i = i + 1 }) (step _ (small-read s i h l) ∙ rw e) (record { end = omega arith })
-
-    pub small-not : test (getD s i 0) ≡ false → place.No ≡ eatenOf (placed i s (one character test (drop i s)))
-    unfolding one here
-    small-not e = no-place s i _ (step _ (small-read s i h l) ∙ rw e)
-
-  module _ (r : ReadCharacter) (e : r ≡ characterOf (placed i s (character (drop i s)))) where
-    pub one-none : r ≡ read.No → place.No ≡ eatenOf (placed i s (one character test (drop i s)))
-    unfolding one
-    one-none g = no-place s i _ (stop _ (none-character s i r e g))
-
-    module _ (x : ℕ) (c : Cur) (g : r ≡ read.Got x c) where
-      pub one-is : test x ≡ true → place.At c ≡ eatenOf (placed i s (one character test (drop i s)))
-      unfolding one here
-      one-is q = let p = some-character s i r e x c g in a-place s i _ c (step _ (p .is) ∙ rw q) (p .on)
-
-      pub one-not : test x ≡ false → place.No ≡ eatenOf (placed i s (one character test (drop i s)))
-      unfolding one here
-      one-not q = no-place s i _ (step _ (some-character s i r e x c g .is) ∙ rw q)
-
 -- ---- file letters
 module _ (x : ℕ) where
   pub dotless : x ≡ 0x131 → 73 ≡ capital x
@@ -178,18 +150,18 @@ module _ (x : ℕ) where
   long e = rw e
 
   pub lower : 97 ≤ x → x ≤ 122 → x - 32 ≡ capital x
-  lower h k = rw (ne-eqb x 0x131 (λ e. omega arith), ne-eqb x 0x17F (λ e. omega arith), le-leb 97 x h, le-leb x 122 k)
+  lower h k = letter-small true x refl h k ∙ sym (other-capital x (λ e. omega arith) (λ e. omega arith))
 
   module _ (d : x ≡ 0x131 → ⊥) (l : x ≡ 0x17F → ⊥) where
     pub below : x < 97 → x ≡ capital x
-    below h = rw (ne-eqb x 0x131 d, ne-eqb x 0x17F l, lt-leb 97 x h)
+    below h = letter-low true x refl h ∙ sym (other-capital x d l)
 
     pub beyond : 122 < x → x ≡ capital x
-    beyond h = rw (ne-eqb x 0x131 d, ne-eqb x 0x17F l, le-leb 97 x (omega arith), lt-leb x 122 h)
+    beyond h = letter-high true x refl h ∙ sym (other-capital x d l)
 
 -- what stands below 128, or above it
 far-upper : (x : ℕ) → 128 ≤ x → upper x ≡ x
-far-upper x h = rw (le-leb 97 x (omega arith), lt-leb x 122 (omega arith))
+far-upper x h = sym (letter-high true x refl (omega arith))
 
 small-upper : (x : ℕ) → upper x < 128 → x < 128
 small-upper x h = go (leb 128 x) refl
@@ -208,51 +180,43 @@ far-capital x v h k m n = go (eqb x 0x131) (eqb x 0x17F)
 
 module _ (s : List ℕ) (i v : ℕ) where
   abbrev found : Eaten
-  found = eatenOf (placed i s (letterOf character v (drop i s)))
+  found = eatenOf (placed i s (letterOf utf8 v (drop i s)))
 
   pub letter-end : length s ≤ i → place.No ≡ found
   unfolding letterOf
-  letter-end h = one-end s i _ h
+  letter-end h = one-none character _ s i (past-end s i h)
 
-  module _ (b : ℕ) (h : i < length s) (l : getD s i 0 < 128) (g : b ≡ upper (getD s i 0)) where
-    up : b ≡ capital (getD s i 0)
-    up = g ∙ sym (small-capital _ l)
+  module _ (b : ℕ) (h : i < length s) (g : b ≡ upper (getD s i 0)) where
+    up : getD s i 0 < 128 → b ≡ capital (getD s i 0)
+    up l = g ∙ sym (small-capital _ l)
 
-    pub letter-here : b ≡ v → place.At (record { i = i + 1 }) ≡ found
+    pub letter-here : v < 128 → b ≡ v → place.At (record { i = i + 1 }) ≡ found
     unfolding letterOf
-    letter-here e = small-is s i _ h l (eq-eqb _ _ (sym up ∙ e))
+    letter-here k e = let l = small-upper (getD s i 0) (omega arith) in one-is character _ s i _ (record { i = i + 1 }) (small-reads s i h l) (eq-eqb _ _ (sym (up l) ∙ e))
 
-    pub letter-not : (b ≡ v → ⊥) → place.No ≡ found
+    pub letter-not : getD s i 0 < 128 → (b ≡ v → ⊥) → place.No ≡ found
     unfolding letterOf
-    letter-not e = small-not s i _ h l (ne-eqb _ _ (λ (y : capital (getD s i 0) ≡ v). e (up ∙ y)))
+    letter-not l e = one-not character _ s i _ (record { i = i + 1 }) (small-reads s i h l) (ne-eqb _ _ (λ (y : capital (getD s i 0) ≡ v). e (up l ∙ y)))
 
-  module _ (b : ℕ) (h : i < length s) (k : v < 128) (g : b ≡ upper (getD s i 0)) where
-    pub letter-there : b ≡ v → place.At (record { i = i + 1 }) ≡ found
-    letter-there e = letter-here b h (small-upper (getD s i 0) (omega arith)) g e
-
-    -- no other letter than I and S has a form above U+007F
-    pub letter-other : (v ≡ 73 → ⊥) → (v ≡ 83 → ⊥) → (b ≡ v → ⊥) → place.No ≡ found
-    unfolding letterOf one here
-    letter-other m n e = go (leb 128 (getD s i 0)) refl
-      where
-        past : {z : Option (ℕ × List ℕ)} → Holds (λ (x : ℕ) (r : List ℕ). 128 ≤ x) z → then z (λ x. here (eqb (capital x) v)) ≡ none
-        past nothing = stop _ refl
-        past (that {v = x} {r = r} f) = step _ refl ∙ rw (ne-eqb (capital x) v (far-capital x v f k m n))
-
-        go : (t : Bool) → leb 128 (getD s i 0) ≡ t → place.No ≡ found
-        go true f = no-place s i _ (rw (drop-next s i h) (past (far (getD s i 0) (drop (i + 1) s) (leb-true _ _ f))))
-        go false f = letter-not b h (leb-false _ _ f) g e
+  -- no other letter than I and S has a form above U+007F
+  pub letter-other : i < length s → v < 128 → 128 ≤ getD s i 0 → (v ≡ 73 → ⊥) → (v ≡ 83 → ⊥) → place.No ≡ found
+  unfolding letterOf one here
+  letter-other h k l m n = no-place s i _ (rw (drop-next s i h) (past (far (getD s i 0) (drop (i + 1) s) l)))
+    where
+      past : {z : Option (ℕ × List ℕ)} → Holds (λ (x : ℕ) (r : List ℕ). 128 ≤ x) z → then z (λ x. here (eqb (capital x) v)) ≡ none
+      past nothing = stop _ refl
+      past (that {v = x} {r = r} f) = step _ refl ∙ rw (ne-eqb (capital x) v (far-capital x v f k m n))
 
   module _ (r : ReadCharacter) (e : r ≡ characterOf (placed i s (character (drop i s)))) where
     pub letter-none : r ≡ read.No → place.No ≡ found
     unfolding letterOf
-    letter-none g = one-none s i _ r e g
+    letter-none g = one-none character _ s i (none-character s i r e g)
 
     module _ (x y : ℕ) (c : Cur) (g : r ≡ read.Got x c) (f : y ≡ capital x) where
       pub letter-is : y ≡ v → place.At c ≡ found
       unfolding letterOf
-      letter-is q = one-is s i _ r e x c g (eq-eqb _ _ (sym f ∙ q))
+      letter-is q = one-is character _ s i x c (some-character s i r e x c g) (eq-eqb _ _ (sym f ∙ q))
 
       pub letter-isn't : (y ≡ v → ⊥) → place.No ≡ found
       unfolding letterOf
-      letter-isn't q = one-not s i _ r e x c g (ne-eqb _ _ (λ (z : capital x ≡ v). q (f ∙ z)))
+      letter-isn't q = one-not character _ s i x c (some-character s i r e x c g) (ne-eqb _ _ (λ (z : capital x ≡ v). q (f ∙ z)))

@@ -3,7 +3,7 @@ ghost use mathlib.Core.Path.{_≡_};
 ghost use mathlib.Core.List.{[], _∷_};
 ghost use Prim.Native.Nat.{_≤_};
 ghost use lib.ListN.{drop};
-ghost use Rattle.parser_spec.specs.Characters.{_to_, byteIn, pointIn, character as Characters·character, wellFormed, capital as Characters·capital, letterOf};
+ghost use Rattle.parser_spec.specs.Characters.{_to_, byteIn, pointIn, character as Characters·character, wellFormed, capital as Characters·capital, utf8, letterOf};
 ghost use Rattle.parser.specs.CursorAnswers.{readAt, eatenOf, readWordOf};
 ghost use Rattle.parser_characters.specs.CharacterAnswers.{characterOf};
 use parser::Cur;
@@ -131,9 +131,9 @@ fn capital(x: u32) -> u32
     }
 }
 
-// This capital letter, in either case, by the whole character.
+// A character that stands for this capital letter.
 fn letter_of(c: Cur, s: &[u8], v: u8) -> Eaten
-    ensures { λ r. ⌜ r ≡ eatenOf (readAt (c .i) (now (s .entry)) (letterOf Characters·character v)) ⌝ }
+    ensures { λ r. ⌜ r ≡ eatenOf (readAt (c .i) (now (s .entry)) (letterOf utf8 v)) ⌝ }
 {
     let ReadCharacter::Got(x, d) = character(c, s) else {
         return Eaten::No;
@@ -144,27 +144,10 @@ fn letter_of(c: Cur, s: &[u8], v: u8) -> Eaten
     Eaten::No
 }
 
-// The same. A byte below 128 is a character by itself, and needs no decoding.
-fn any_letter(c: Cur, s: &[u8], v: u8) -> Eaten
-    ensures { λ r. ⌜ r ≡ eatenOf (readAt (c .i) (now (s .entry)) (letterOf Characters·character v)) ⌝ }
-{
-    let i = c.i;
-    if s.len() <= i {
-        return Eaten::No;
-    }
-    let b = s[i];
-    if 128 <= b {
-        return letter_of(c, s, v);
-    }
-    if base::letter(b, true) == v {
-        return Eaten::At(Cur { i: i + 1 });
-    }
-    Eaten::No
-}
-
-// The same. Callers have a constant below 128 as `v`, and of those only I and S have a form above U+007F: no other is asked for one.
+// A file letter: this capital one in either case, ı for I and ſ for S. A byte below 128 needs no decoding; and `v` is a constant where this is called, so that
+// only I and S, which alone have a form above U+007F, are asked for one.
 pub fn letter(c: Cur, s: &[u8], v: u8) -> Eaten
-    ensures { λ r. ⌜ r ≡ eatenOf (readAt (c .i) (now (s .entry)) (letterOf Characters·character v)) ⌝ }
+    ensures { λ r. ⌜ r ≡ eatenOf (readAt (c .i) (now (s .entry)) (letterOf utf8 v)) ⌝ }
 {
     let i = c.i;
     if s.len() <= i {
@@ -173,12 +156,16 @@ pub fn letter(c: Cur, s: &[u8], v: u8) -> Eaten
     if 128 <= v {
         return letter_of(c, s, v);
     }
-    if base::letter(s[i], true) == v {
+    let b = s[i];
+    if base::letter(b, true) == v {
         return Eaten::At(Cur { i: i + 1 });
     }
+    if b < 128 {
+        return Eaten::No;
+    }
     match v {
-        b'I' => any_letter(c, s, v),
-        b'S' => any_letter(c, s, v),
+        b'I' => letter_of(c, s, v),
+        b'S' => letter_of(c, s, v),
         _ => Eaten::No,
     }
 }

@@ -8,7 +8,7 @@ use native.Mathlib.Omega.{arith}
 use lib.ListN.{length, drop, length-drop}
 use lib.Seq.{drop-drop}
 use Rattle.parser_spec.specs.DecimalNumbers.{isDigit, digitRun}
-use Rattle.parser_spec.specs.Parts.{Part, then, here, oneByte, byte, numeral, digits, digitsIn, behind, afterByte, countNumber, countOf}
+use Rattle.parser_spec.specs.Parts.{Part, then, here, anyByte, one, byte, numeral, digits, digitsIn, behind, afterByte, countNumber, countOf}
 use Rattle.parser_spec.proofs.Held.{Holds, nothing, that, weaker, and-next, numeral-held, digits-held}
 
 pub record Behind (s r : List ℕ) : Type 0 where
@@ -50,20 +50,24 @@ then-leaves h f = and-next h (λ v r b. further b (f v r))
 pub give-leaves : {A : Type 0} {v : A} (s : List ℕ) → Leaves s (some (v, s))
 give-leaves s = that (none-behind s)
 
--- ---- one byte
+-- ---- one byte or character
 pub here-leaves : (t : Bool) (s : List ℕ) → Leaves s (here t s)
 unfolding here
 here-leaves true s = give-leaves s
 here-leaves false s = nothing
 
-one-leaves : (test : ℕ → Bool) (s : List ℕ) → Leaves s (oneByte test s)
-unfolding oneByte
-one-leaves test [] = nothing
-one-leaves test (b ∷ s) = further (behind-drop 1 (b ∷ s) (omega arith)) (here-leaves (test b) s)
+pub any-leaves : (s : List ℕ) → Leaves s (anyByte s)
+unfolding anyByte
+any-leaves [] = nothing
+any-leaves (b ∷ s) = further (behind-drop 1 (b ∷ s) (omega arith)) (give-leaves s)
+
+pub one-leaves : (char : Part ℕ) → ((s : List ℕ) → Leaves s (char s)) → (test : ℕ → Bool) (s : List ℕ) → Leaves s (one char test s)
+unfolding one
+one-leaves char leaves test s = then-leaves (leaves s) λ x r. here-leaves (test x) r
 
 pub byte-leaves : (v : ℕ) (s : List ℕ) → Leaves s (byte v s)
 unfolding byte
-byte-leaves v s = one-leaves _ s
+byte-leaves v s = one-leaves anyByte any-leaves _ s
 
 -- ---- numbers
 -- a run of digits lies in the text

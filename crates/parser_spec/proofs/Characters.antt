@@ -4,7 +4,7 @@ use Prim.Native.Char.{Char}
 use mathlib.Core.Path.{_≡_, refl, ap, sym, subst, _∙_}
 use mathlib.Core.List.{List, [], _∷_}
 use mathlib.Core.Option.{Option, none, some}
-use mathlib.Core.Bool.{Bool, true, false, _&&_, cond}
+use mathlib.Core.Bool.{Bool, true, false, _&&_, cond, and-false}
 use native.Mathlib.Nat.{le-of-suc-le-suc, not-suc-le-zero}
 use native.Mathlib.Omega.{arith}
 use borrow.Author.Tests.{eq-eqb, ne-eqb, le-leb, lt-leb, leb-true, ltb-true}
@@ -12,10 +12,11 @@ use lib.Dec.{leb, ltb, eqb}
 use lib.ListN.{length, drop, getD}
 use Rattle.base.specs.Chars.{upper}
 use Rattle.base.proofs.EveryPlace.{both}
-use Rattle.parser_spec.specs.Parts.{Part, then, here, orElse, atEnd}
-use Rattle.parser_spec.specs.Characters.{Range, within, Row, row, table, byteIn, bytesIn, pointIn, characterIn, character, anyByte, onward, characters, wellFormed, one, capital, letterOf, letter, firstOf}
-use Rattle.parser_spec.proofs.Held.{Holds, nothing, that, weaker, and-any, or-held, held-of, here-held, no-some}
-use Rattle.parser_spec.proofs.Behind.{Leaves, behind-drop, further, then-leaves, give-leaves, here-leaves}
+use Rattle.parser_spec.specs.Parts.{then, here, orElse, atEnd, one}
+use Rattle.parser_spec.specs.Characters.{Range, within, Row, row, table, byteIn, bytesIn, pointIn, characterIn, character, onward, characters, wellFormed, Alphabet, capital, utf8, letterOf, letter, firstOf}
+use Rattle.parser_spec.proofs.Held.{Holds, nothing, that, weaker, and-any, or-held, held-of, Read, one-held, no-some}
+use Rattle.parser_spec.proofs.Behind.{Leaves, behind-drop, further, then-leaves, give-leaves, one-leaves}
+use Rattle.parser_spec.proofs.Written.{one-read}
 
 -- ---- what a character leaves
 tested : {A : Type 0} {P : A → List ℕ → Type 0} (t : Bool) {x y : Option (A × List ℕ)} → Holds P x → Holds P y → Holds P (cond t x y)
@@ -47,76 +48,50 @@ unfolding characterIn table
 character-leaves [] = nothing
 character-leaves (b ∷ s) = further (behind-drop 1 (b ∷ s) (omega arith)) (lead-read table b s)
 
-pub any-leaves : (s : List ℕ) → Leaves s (anyByte s)
-unfolding anyByte
-any-leaves [] = nothing
-any-leaves (b ∷ s) = further (behind-drop 1 (b ∷ s) (omega arith)) (give-leaves s)
-
-module _ (char : Part ℕ) (leaves : (s : List ℕ) → Leaves s (char s)) where
-  pub one-leaves : (test : ℕ → Bool) (s : List ℕ) → Leaves s (one char test s)
-  unfolding one
-  one-leaves test s = then-leaves (leaves s) λ x r. here-leaves (test x) r
-
-  pub letter-by-leaves : (v : ℕ) (s : List ℕ) → Leaves s (letterOf char v s)
+module _ (a : Alphabet) (leaves : (s : List ℕ) → Leaves s (a .char s)) where
+  pub letter-by-leaves : (v : ℕ) (s : List ℕ) → Leaves s (letterOf a v s)
   unfolding letterOf
-  letter-by-leaves v s = one-leaves _ s
+  letter-by-leaves v s = one-leaves (a .char) leaves _ s
 
-  pub first-by-leaves : {A : Type 0} (xs : List (Char × A)) (s : List ℕ) → Leaves s (firstOf char xs s)
+  pub first-by-leaves : {A : Type 0} (xs : List (Char × A)) (s : List ℕ) → Leaves s (firstOf a xs s)
   unfolding firstOf
   first-by-leaves [] s = nothing
   first-by-leaves (x ∷ xs) s = or-held (then-leaves (letter-by-leaves _ s) λ u r. give-leaves r) (first-by-leaves xs s)
 
-pub letter-leaves : (v : ℕ) (s : List ℕ) → Leaves s (letterOf character v s)
-letter-leaves v s = letter-by-leaves character character-leaves v s
+pub letter-leaves : (v : ℕ) (s : List ℕ) → Leaves s (letterOf utf8 v s)
+letter-leaves v s = letter-by-leaves utf8 character-leaves v s
 
-pub first-leaves : {A : Type 0} (xs : List (Char × A)) (s : List ℕ) → Leaves s (firstOf character xs s)
-first-leaves xs s = first-by-leaves character character-leaves xs s
+pub first-leaves : {A : Type 0} (xs : List (Char × A)) (s : List ℕ) → Leaves s (firstOf utf8 xs s)
+first-leaves xs s = first-by-leaves utf8 character-leaves xs s
 
 -- ---- what holds of what is read, and what was written
 abbrev pub AllOf : {X : Type 0} → (X → Type 0) → List (Char × X) → Type 0
 AllOf P [] = Unit {0}
 AllOf P (x ∷ xs) = P (x .1) × AllOf P xs
 
-module _ (char : Part ℕ) where
-  pub record Read (test : ℕ → Bool) (s r : List ℕ) : Type 0 where
-    pub value : ℕ
-    pub passes : test value ≡ true
-    pub text : char s ≡ some (value, r)
-
-  pub one-held : (test : ℕ → Bool) (s : List ℕ) → Holds (λ (u : Unit {0}) (r : List ℕ). Read test s r) (one char test s)
-  unfolding one then
-  one-held test s = go (char s) refl
-    where
-      go : (z : Option (ℕ × List ℕ)) → char s ≡ z → Holds (λ (u : Unit {0}) (r : List ℕ). Read test s r) (then z (λ x. here (test x)))
-      go none e = nothing
-      go (some p) e = weaker (λ u r h. record { value = p .0; passes = h .0; text = e ∙ ap (λ (l : List ℕ). some (p .0, l)) (sym (h .1)) }) (here-held (test (p .0)) (p .1))
-
-  pub one-read : (test : ℕ → Bool) (x : ℕ) {s r : List ℕ} → char s ≡ some (x, r) → test x ≡ true → one char test s ≡ some (tt, r)
-  unfolding one then here
-  one-read test x e h = rw (e, h)
-
-  pub letter-held : (v : ℕ) (s : List ℕ) → Holds (λ (u : Unit {0}) (r : List ℕ). Read (λ x. eqb (capital x) v) s r) (letterOf char v s)
+module _ (alphabet : Alphabet) where
+  pub letter-held : (v : ℕ) (s : List ℕ) → Holds (λ (u : Unit {0}) (r : List ℕ). Read (alphabet .char) (λ x. eqb (alphabet .capital x) v) s r) (letterOf alphabet v s)
   unfolding letterOf
-  letter-held v s = one-held _ s
+  letter-held v s = one-held (alphabet .char) _ s
 
-  pub letter-read : (v x : ℕ) {s r : List ℕ} → char s ≡ some (x, r) → capital x ≡ v → letterOf char v s ≡ some (tt, r)
+  pub letter-read : (v x : ℕ) {s r : List ℕ} → alphabet .char s ≡ some (x, r) → alphabet .capital x ≡ v → letterOf alphabet v s ≡ some (tt, r)
   unfolding letterOf
-  letter-read v x e h = one-read _ x e (eq-eqb _ _ h)
+  letter-read v x e h = one-read (alphabet .char) _ x e (eq-eqb _ _ h)
 
   module _ {A : Type 0} (c : Char) (a : A) (xs : List (Char × A)) (t : List ℕ) where
-    pub first-read : {s : List ℕ} → letter char c t ≡ some (tt, s) → firstOf char ((c, a) ∷ xs) t ≡ some (a, s)
+    pub first-read : {s : List ℕ} → letter alphabet c t ≡ some (tt, s) → firstOf alphabet ((c, a) ∷ xs) t ≡ some (a, s)
     unfolding firstOf orElse then
     first-read e = rw e
 
-    pub first-past : letter char c t ≡ none → firstOf char ((c, a) ∷ xs) t ≡ firstOf char xs t
+    pub first-past : letter alphabet c t ≡ none → firstOf alphabet ((c, a) ∷ xs) t ≡ firstOf alphabet xs t
     unfolding firstOf orElse then
     first-past e = rw e
 
   module _ {X : Type 0} where
-    pub first-held : (P : X → Type 0) (xs : List (Char × X)) → AllOf P xs → (s : List ℕ) → Holds (λ (t : X) (r : List ℕ). P t) (firstOf char xs s)
+    pub first-held : (P : X → Type 0) (xs : List (Char × X)) → AllOf P xs → (s : List ℕ) → Holds (λ (t : X) (r : List ℕ). P t) (firstOf alphabet xs s)
     unfolding firstOf
     first-held P [] h s = nothing
-    first-held P (x ∷ xs) h s = or-held (and-any (letter char (x .0) s) λ v r. that (h .0)) (first-held P xs (h .1) s)
+    first-held P (x ∷ xs) h s = or-held (and-any (letter alphabet (x .0) s) λ v r. that (h .0)) (first-held P xs (h .1) s)
 
 -- ---- a text of characters
 pub formed-none : (s : List ℕ) → character s ≡ none → wellFormed s ≡ atEnd s
@@ -159,10 +134,6 @@ above-at : (h : ℕ) (rows : List Row) (k : ℕ) (d : Row) → above h rows ≡ 
 above-at h [] k d a l = absurd (not-suc-le-zero l)
 above-at h (r ∷ rows) zero d a l = ltb-true _ _ (both (ltb h (r .lead .low)) (above h rows) a .0)
 above-at h (r ∷ rows) (suc k) d a l = above-at h rows k d (both (ltb h (r .lead .low)) (above h rows) a .1) (le-of-suc-le-suc l)
-
-and-false : (t : Bool) → (t && false) ≡ false
-and-false true = refl
-and-false false = refl
 
 abbrev noRow : Row
 noRow = row 0 (record { low = 0; high = 0 }) []
@@ -242,5 +213,19 @@ module _ (b : ℕ) (s : List ℕ) where
   unfolding pointIn bytesIn then table
   small-character h = in-row 0 (omega arith) (omega arith) (omega arith) ∙ ap (λ (x : ℕ). some (x, s)) (omega arith)
 
+-- ---- the capital letters of characters
+-- only two characters stand for another letter than in document 01
+pub other-capital : (x : ℕ) → (x ≡ 0x131 → ⊥) → (x ≡ 0x17F → ⊥) → capital x ≡ upper x
+other-capital x d l = rw (ne-eqb x 0x131 d, ne-eqb x 0x17F l)
+
 pub small-capital : (x : ℕ) → x < 128 → capital x ≡ upper x
-small-capital x h = simp (ne-eqb x 0x131 (λ e. omega arith), ne-eqb x 0x17F (λ e. omega arith))
+small-capital x h = other-capital x (λ e. omega arith) (λ e. omega arith)
+
+-- C4 B1 is an I, C5 BF an S
+pub dotless-i : (s : List ℕ) → letter utf8 "I" (0xC4 ∷ 0xB1 ∷ s) ≡ some (tt, s)
+unfolding letterOf one then here characterIn table pointIn bytesIn byteIn
+dotless-i s = refl
+
+pub long-s : (s : List ℕ) → letter utf8 "S" (0xC5 ∷ 0xBF ∷ s) ≡ some (tt, s)
+unfolding letterOf one then here characterIn table pointIn bytesIn byteIn
+long-s s = refl

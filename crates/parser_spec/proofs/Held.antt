@@ -1,15 +1,15 @@
 -- What holds of whatever a part reads: a law for each part, so that a fact about accepted texts is one line a form.
 use Prim.Native.Nat.{ℕ, _≤_, _<_}
-use mathlib.Core.Path.{_≡_, refl, ap, sym, _∙_, subst}
+use mathlib.Core.Path.{_≡_, refl, ap, ap₂, sym, _∙_, subst}
 use mathlib.Core.List.{List, [], _∷_}
 use mathlib.Core.Option.{Option, none, some}
 use mathlib.Core.Bool.{Bool, true, false, _&&_, cond}
 use native.Mathlib.Omega.{arith}
 use borrow.Author.Tests.{eqb-true, leb-true, ltb-true}
-use lib.Dec.{leb, ltb}
+use lib.Dec.{leb, ltb, eqb}
 use lib.ListN.{take, drop}
 use Rattle.parser_spec.specs.DecimalNumbers.{digitRun, most, numberOf}
-use Rattle.parser_spec.specs.Parts.{Part, then, orElse, ended, whole, atEnd, here, oneByte, byte, numeral, digits, digitsIn, behind, afterByte, countNumber, countOf}
+use Rattle.parser_spec.specs.Parts.{Part, then, orElse, ended, whole, atEnd, here, anyByte, one, byte, numeral, digits, digitsIn, behind, afterByte, countNumber, countOf}
 
 pub data Holds {X : Type 0} (P : X → List ℕ → Type 0) : Option (X × List ℕ) → Type 0 where
   nothing : Holds P none
@@ -70,25 +70,35 @@ module _ {X : Type 0} where
         go none = that h
         go (some w) = f (w .1)
 
--- ---- a test, one byte
+-- ---- a test, one byte or character
 pub here-held : (t : Bool) (s : List ℕ) → Holds (λ (u : Unit {0}) (r : List ℕ). (t ≡ true) × (r ≡ s)) (here t s)
 unfolding here
 here-held true s = that (refl, refl)
 here-held false s = nothing
 
-pub record Read (test : ℕ → Bool) (s r : List ℕ) : Type 0 where
-  pub value : ℕ
-  pub passes : test value ≡ true
-  pub text : s ≡ value ∷ r
+-- a character that passes a test, and what was left behind it
+module _ (char : Part ℕ) where
+  pub record Read (test : ℕ → Bool) (s r : List ℕ) : Type 0 where
+    pub value : ℕ
+    pub passes : test value ≡ true
+    pub text : char s ≡ some (value, r)
 
-pub one-held : (test : ℕ → Bool) (s : List ℕ) → Holds (λ (u : Unit {0}) (r : List ℕ). Read test s r) (oneByte test s)
-unfolding oneByte
-one-held test [] = nothing
-one-held test (b ∷ s) = weaker (λ u r h. record { value = b; passes = h .0; text = ap (λ (l : List ℕ). b ∷ l) (sym (h .1)) }) (here-held (test b) s)
+  pub one-held : (test : ℕ → Bool) (s : List ℕ) → Holds (λ (u : Unit {0}) (r : List ℕ). Read test s r) (one char test s)
+  unfolding one then
+  one-held test s = go (char s) refl
+    where
+      go : (z : Option (ℕ × List ℕ)) → char s ≡ z → Holds (λ (u : Unit {0}) (r : List ℕ). Read test s r) (then z (λ x. here (test x)))
+      go none e = nothing
+      go (some p) e = weaker (λ u r h. record { value = p .0; passes = h .0; text = e ∙ ap (λ (l : List ℕ). some (p .0, l)) (sym (h .1)) }) (here-held (test (p .0)) (p .1))
+
+any-held : (s : List ℕ) → Holds (λ (b : ℕ) (r : List ℕ). s ≡ b ∷ r) (anyByte s)
+unfolding anyByte
+any-held [] = nothing
+any-held (b ∷ s) = that refl
 
 pub byte-held : (v : ℕ) (s : List ℕ) → Holds (λ (u : Unit {0}) (r : List ℕ). s ≡ v ∷ r) (byte v s)
-unfolding byte
-byte-held v s = weaker (λ u r h. h .text ∙ ap (λ (b : ℕ). b ∷ r) (eqb-true _ _ (h .passes))) (one-held _ s)
+unfolding byte one
+byte-held v s = and-next (any-held s) λ b r e. weaker (λ u q h. e ∙ ap₂ (λ (x : ℕ) (l : List ℕ). x ∷ l) (eqb-true b v (h .0)) (sym (h .1))) (here-held (eqb b v) r)
 
 -- ---- numbers
 pub record Numeral (s : List ℕ) (n : ℕ) (r : List ℕ) : Type 0 where

@@ -1,12 +1,13 @@
--- The table of characters is the Unicode Standard's: each row has as many sequences of bytes as code points, so that every character is a Unicode scalar value.
-use Prim.Native.Nat.{ℕ, _+_, _*_, _-_, _≤_}
+-- The table of characters is the Unicode Standard's: each row has as many sequences of bytes as code points, and goes from the sequence of its first to that of its last;
+-- every character is a Unicode scalar value.
+use Prim.Native.Nat.{ℕ, zero, suc, _+_, _*_, _-_, _/_, _%_, _^_, _≤_}
 use mathlib.Core.Path.{_≡_, refl}
-use mathlib.Core.List.{List, [], _∷_}
+use mathlib.Core.List.{List, [], _∷_, map}
 use mathlib.Core.Option.{none, some}
 use mathlib.Core.Bool.{Bool, true, false, _&&_, cond}
 use native.Mathlib.Omega.{arith}
 use borrow.Author.Tests.{leb-true}
-use lib.Dec.{leb}
+use lib.Dec.{leb, ltb}
 use Rattle.base.proofs.EveryPlace.{both}
 use Rattle.parser_spec.specs.Characters.{Range, within, Row, table, byteIn, bytesIn, pointIn, characterIn, character}
 use Rattle.parser_spec.proofs.Held.{Holds, nothing, that, weaker, and-next}
@@ -28,6 +29,28 @@ pub code-points : ends table
     ≡ ((0x0, 0x7F) ∷ (0x80, 0x7FF) ∷ (0x800, 0xFFF) ∷ (0x1000, 0xCFFF) ∷ (0xD000, 0xD7FF) ∷ (0xE000, 0xFFFF) ∷ (0x10000, 0x3FFFF) ∷ (0x40000, 0xFFFFF) ∷ (0x100000, 0x10FFFF) ∷ [])
 unfolding table
 code-points = refl
+
+-- table 3-6, "UTF-8 Bit Distribution": six bits in each byte behind the first, which has the mark of how many there are
+abbrev sixBits : ℕ → ℕ → List ℕ
+sixBits zero x = []
+sixBits (suc k) x = (0x80 + (x / 64 ^ k) % 64) ∷ sixBits k x
+
+abbrev marked : ℕ → ℕ → ℕ → List ℕ
+marked mark k x = (mark + x / 64 ^ k) ∷ sixBits k x
+
+abbrev encoded : ℕ → List ℕ
+encoded x = cond (ltb x 0x80) (marked 0x00 0 x) (cond (ltb x 0x800) (marked 0xC0 1 x) (cond (ltb x 0x10000) (marked 0xE0 2 x) (marked 0xF0 3 x)))
+
+-- the sequences that a row goes from and to
+abbrev lowest : Row → List ℕ
+lowest r = r .lead .low ∷ map (λ (b : Range). b .low) (r .trail)
+
+abbrev highest : Row → List ℕ
+highest r = r .lead .high ∷ map (λ (b : Range). b .high) (r .trail)
+
+pub sequences : (map (λ (r : Row). encoded (r .first)) table ≡ map lowest table) × (map (λ (r : Row). encoded (lastOf r)) table ≡ map highest table)
+unfolding table
+sequences = (refl, refl)
 
 -- ---- no surrogate, nothing above U+10FFFF
 pub data Scalar (x : ℕ) : Type 0 where

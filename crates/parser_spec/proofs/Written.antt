@@ -1,25 +1,28 @@
 -- What was written is read back: a law for each part.
-use Prim.Native.Nat.{ℕ, suc, _+_, _≤_, _<_}
+use Prim.Native.Nat.{ℕ, suc, _≤_, _<_}
 use mathlib.Core.Path.{_≡_, refl, ap, _∙_}
 use mathlib.Core.List.{List, [], _∷_, _++_}
 use mathlib.Core.Option.{Option, none, some}
 use mathlib.Core.Bool.{Bool, true, false, cond}
 use native.Mathlib.Omega.{arith}
 use borrow.Author.Tests.{eq-eqb, le-leb, lt-ltb}
-use lib.ListN.{length, take, drop}
+use lib.ListN.{length}
 use lib.Seq.{take-append-seam, drop-append-seam}
 use Rattle.parser_spec.specs.DecimalNumbers.{isDigit, digitRun, numberOf}
-use Rattle.parser_spec.specs.Parts.{Part, then, ended, whole, atEnd, here, oneByte, byte, numeral, digits, digitsIn, afterByte, countNumber, countOf}
+use Rattle.parser_spec.specs.Parts.{Part, then, ended, whole, atEnd, here, anyByte, one, byte, numeral, digits, digitsIn, afterByte, countNumber, countOf}
 
 -- ---- one part behind another
 module _ {A B : Type 0} {x : Option (A × List ℕ)} (k : A → Part B) where
+  pub behind-same : {y : Option (A × List ℕ)} → x ≡ y → then x k ≡ then y k
+  behind-same e = ap (λ (z : Option (A × List ℕ)). then z k) e
+
   pub step : {a : A} {s : List ℕ} → x ≡ some (a, s) → then x k ≡ k a s
   unfolding then
-  step e = ap (λ (y : Option (A × List ℕ)). then y k) e
+  step e = behind-same e
 
   pub stop : x ≡ none → then x k ≡ none
   unfolding then
-  stop e = ap (λ (y : Option (A × List ℕ)). then y k) e
+  stop e = behind-same e
 
 module _ {A : Type 0} where
   pub whole-read : (p : Part A) (s : List ℕ) (a : A) → p s ≡ some (a, []) → whole p s ≡ some a
@@ -34,14 +37,14 @@ module _ {A : Type 0} where
   unfolding afterByte
   after-absent v p a s e = rw e
 
--- ---- one byte
-pub one-read : (test : ℕ → Bool) (b : ℕ) (r : List ℕ) → test b ≡ true → oneByte test (b ∷ r) ≡ some (tt, r)
-unfolding oneByte here
-one-read test b r e = rw e
+-- ---- one byte or character
+pub one-read : (char : Part ℕ) (test : ℕ → Bool) (x : ℕ) {s r : List ℕ} → char s ≡ some (x, r) → test x ≡ true → one char test s ≡ some (tt, r)
+unfolding one then here
+one-read char test x e h = rw (e, h)
 
 pub byte-read : (v : ℕ) (r : List ℕ) → byte v (v ∷ r) ≡ some (tt, r)
-unfolding byte
-byte-read v r = one-read _ v r (eq-eqb v v refl)
+unfolding byte anyByte
+byte-read v r = one-read anyByte _ v refl (eq-eqb v v refl)
 
 -- ---- numbers: digits `d` with no digit behind them
 pub run-read : (d r : List ℕ) → digitRun d ≡ length d → digitRun r ≡ 0 → digitRun (d ++ r) ≡ length d

@@ -7,7 +7,7 @@ use mathlib.Core.Bool.{Bool, _&&_, cond}
 use lib.Dec.{leb, eqb}
 use lib.ListN.{length}
 use Rattle.base.specs.Chars.{upper}
-use Rattle.parser_spec.specs.Parts.{Part, then, _>>=_, give, here, orElse, atEnd}
+use Rattle.parser_spec.specs.Parts.{Part, then, _>>=_, give, orElse, atEnd, anyByte, one}
 
 -- ---- one character
 -- bytes from low to high
@@ -69,11 +69,6 @@ characterIn (r ∷ rows) (b ∷ s) = cond (within (r .lead) b) (pointIn (r .firs
 abbrev pub character : Part ℕ
 character = characterIn table
 
--- document 01, which stops at byte 127: a byte is a character
-unfoldable pub anyByte : Part ℕ
-anyByte [] = none
-anyByte (b ∷ s) = some (b, s)
-
 -- ---- a text of characters
 -- what is said of the rest behind a character; where there is none, whether the text is at its end
 abbrev pub onward : Option (ℕ × List ℕ) → List ℕ → (List ℕ → Bool) → Bool
@@ -89,20 +84,28 @@ characters (suc n) s = onward (character s) s (characters n)
 unfoldable pub wellFormed : List ℕ → Bool
 wellFormed s = characters (length s) s
 
--- ---- what is asked of a character, read by `char`
-module _ (char : Part ℕ) where
-  -- one character that passes a test
-  unfoldable pub one : (ℕ → Bool) → Part (Unit {0})
-  one test = do x ← char; here (test x)
+-- ---- file letters
+-- what is read as a character, and the capital letter that one stands for where a file letter is read
+pub record Alphabet : Type 0 where
+  pub char : Part ℕ
+  pub capital : ℕ → ℕ
 
 -- A2: "U+0131 is an I and U+017F is an S where a file letter is read"; document 01: "Letters in either case."
 abbrev pub capital : ℕ → ℕ
 capital x = cond (eqb x 0x131) (code "I") (cond (eqb x 0x17F) (code "S") (upper x))
 
-module _ (char : Part ℕ) where
-  -- this capital letter, in either case
+-- A2: "a tag is well-formed UTF-8"
+abbrev pub utf8 : Alphabet
+utf8 = record { char = character; capital = capital }
+
+-- document 01, which stops at byte 127: a byte is a character; "Letters in either case."
+abbrev pub bytewise : Alphabet
+bytewise = record { char = anyByte; capital = upper }
+
+module _ (alphabet : Alphabet) where
+  -- a character that stands for this capital letter
   unfoldable pub letterOf : ℕ → Part (Unit {0})
-  letterOf v = one char (λ x. eqb (capital x) v)
+  letterOf v = one (alphabet .char) (λ x. eqb (alphabet .capital x) v)
 
   abbrev pub letter : Char → Part (Unit {0})
   letter c = letterOf (code c)

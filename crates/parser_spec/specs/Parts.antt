@@ -51,14 +51,18 @@ unfoldable pub here : Bool → Part (Unit {0})
 here true = give tt
 here false = λ _. none
 
--- one byte that passes a test
-unfoldable pub oneByte : (ℕ → Bool) → Part (Unit {0})
-oneByte test [] = none
-oneByte test (b ∷ s) = here (test b) s
+-- any byte
+unfoldable pub anyByte : Part ℕ
+anyByte [] = none
+anyByte (b ∷ s) = some (b, s)
+
+-- one that passes a test, of the bytes or characters that `char` reads
+unfoldable pub one : Part ℕ → (ℕ → Bool) → Part (Unit {0})
+one char test = do x ← char; here (test x)
 
 -- this byte
 unfoldable pub byte : ℕ → Part (Unit {0})
-byte v = oneByte (λ b. eqb b v)
+byte v = one anyByte (λ b. eqb b v)
 
 abbrev pub sign : Char → Part (Unit {0})
 sign c = byte (code c)

@@ -11,6 +11,7 @@ use lib.Dec.{ltb, leb}
 use lib.ListN.{length, take, length-take}
 use lib.Seq.{length-take-le, take-all}
 use Rattle.base.proofs.Put.{puts-wrote}
+use Rattle.base.proofs.Unmatched.{NoneOf, Unlike, unlike}
 use Rattle.base.specs.Put.{Wrote, Puts}
 use Rattle.reply_status_text.specs.declared.StatusText.{StatusText}
 use Rattle.reply_status_text.specs.declared.StatusText.the-variants as statusText·
@@ -52,17 +53,14 @@ pub row-told : (code : ℕ) (l m : List ℕ) (r : StatusText) (status : ℕ) (te
 unfolding textOf
 row-told code l m r status text e f w = subst (λ (t : Option (List ℕ)). Tells t l r m) (sym (ap (textIn texts) e ∙ f)) w
 
--- a status that is none of the codes, beside what else is known, as a `match` leaves it
-abbrev pub NoneOf : Type 0 → List (ℕ × List ℕ) → ℕ → Type 0
-NoneOf X [] c = X
-NoneOf X (row ∷ rows) c = NoneOf (X × (c ≡ row .0 → ⊥)) rows c
+-- a status that is none of the codes
+abbrev codeOf : ℕ × List ℕ → ℕ
+codeOf row = row .0
 
-none-passes : (X : Type 0) (rows : List (ℕ × List ℕ)) (c : ℕ) → NoneOf X rows c → X × (textIn rows c ≡ none)
-none-passes X [] c h = (h, refl)
-none-passes X (row ∷ rows) c h =
-    let r : (X × (c ≡ row .0 → ⊥)) × (textIn rows c ≡ none) = none-passes (X × (c ≡ row .0 → ⊥)) rows c h in
-    (r .0 .0, rw (ne-eqb (row .0) c (λ (e : row .0 ≡ c). r .0 .1 (sym e))) (r .1))
+none-passes : (rows : List (ℕ × List ℕ)) (c : ℕ) → Unlike codeOf rows c → textIn rows c ≡ none
+none-passes [] c h = refl
+none-passes (row ∷ rows) c h = rw (ne-eqb (row .0) c (λ (e : row .0 ≡ c). h .0 (sym e))) (none-passes rows c (h .1))
 
-pub no-text : (l : List ℕ) (c : ℕ) → NoneOf (Unit {0}) texts c → Tells (textOf c) l statusText·.Nothing l
+pub no-text : (l : List ℕ) (c : ℕ) → NoneOf codeOf (Unit {0}) texts c → Tells (textOf c) l statusText·.Nothing l
 unfolding textOf
-no-text l c h = rw (none-passes (Unit {0}) texts c h .1) (record { answer = refl; memory = refl })
+no-text l c h = rw (none-passes texts c (unlike codeOf texts c h)) (record { answer = refl; memory = refl })

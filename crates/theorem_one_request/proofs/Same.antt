@@ -14,7 +14,7 @@ use Rattle.address_spec.specs.declared.Address.{Address}
 use Rattle.address_spec.specs.declared.Parsed.{Parsed}
 use Rattle.address_spec.specs.declared.Parsed.the-variants as parsed
 use Rattle.address_spec.specs.Elements.{Elements, elementsOf}
-use Rattle.parser_spec.specs.Characters.{character, wellFormed}
+use Rattle.parser_spec.specs.Characters.{wellFormed, utf8}
 use Rattle.address_spec.specs.Spelling.{addressOf, accepted, formOf, separates}
 use Rattle.address_spec.proofs.Ranges.{Ranged, ranged}
 use Rattle.request_frame.specs.declared.Requestor.{Requestor}
@@ -38,7 +38,7 @@ Some (parsed.Is x) = Unit {0}
 
 some-number : (tag : List ℕ) → Some (addressOf tag)
 unfolding addressOf
-some-number tag = go (leb (length tag) 255 && wellFormed tag) (formOf character separates tag)
+some-number tag = go (leb (length tag) 255 && wellFormed tag) (formOf utf8 separates tag)
   where
     go : (b : Bool) (f : Option Address) → Some (cond b (accepted f) (parsed.Refused 1))
     go true none = omega arith

@@ -1,5 +1,4 @@
-use Rattle.parser_characters.proofs.CharacterReaders.{one-end}
-use Rattle.address_timers.proofs.Timers.{sign-here, sign-not}
+use Rattle.address_timers.proofs.Timers.{sign-end, sign-here, sign-not}
 use borrow.Author.Needs.{needs}
 use Rattle.address_timers.proofs.separator.Statement.{statement}
 use Rattle.address_timers.proofs.separator.Tie as tie
@@ -8,7 +7,7 @@ pub separator-spec : {M : Type 1} → statement M
 separator-spec =
     tie.close
     (tie.spec
-    (λ c. search (one-end, needs))
+    (λ c. search (sign-end, needs))
     (λ c. search needs)
     (λ c κs. search needs)
     (λ c. search needs)

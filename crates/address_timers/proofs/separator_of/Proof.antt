@@ -1,5 +1,4 @@
-use Rattle.parser_characters.proofs.CharacterReaders.{one-none}
-use Rattle.address_timers.proofs.Timers.{sign-is, sign-isn't}
+use Rattle.address_timers.proofs.Timers.{sign-none, sign-is, sign-isn't}
 use borrow.Author.Needs.{needs}
 use Rattle.address_timers.proofs.separator_of.Statement.{statement}
 use Rattle.address_timers.proofs.separator_of.Tie as tie
@@ -11,7 +10,7 @@ separator-of-spec =
     (λ c κs. search needs)
     (λ c. search needs)
     (λ c. search needs)
-    (λ c. search (one-none, needs))
+    (λ c. search (sign-none, needs))
     (λ c κs. search needs)
     (λ c. search (sign-isn't, needs))
     (λ c. search (sign-is, needs)))

@@ -1,4 +1,4 @@
-use Rattle.parser_characters.proofs.CharacterReaders.{letter-end, letter-there, letter-other}
+use Rattle.parser_characters.proofs.CharacterReaders.{letter-end, letter-here, letter-not, letter-other}
 use borrow.Author.Needs.{needs}
 use Rattle.parser_characters.proofs.letter.Statement.{statement}
 use Rattle.parser_characters.proofs.letter.Tie as tie
@@ -13,7 +13,8 @@ letter-spec =
     (λ c. search needs)
     (λ c κs. search needs)
     (λ c. search needs)
-    (λ c. search (letter-there, needs))
+    (λ c. search (letter-here, needs))
+    (λ c. search (letter-not, needs))
     (λ c κs. search needs)
     (λ c κs. search needs)
     (λ c. search needs)
