@@ -24,8 +24,8 @@ FUNCTION_AT = 17
 
 
 def shown(tag: bytes) -> str:
-    """A tag as a text of one line, with escapes for backslashes, for what can't be printed, as the separator of a timer or counter may be, and for bytes that
-    aren't UTF-8 (these as \\udc and two digits)."""
+    """A tag as a text of one line, as Python writes it between quotes: with escapes for backslashes, for what can't be printed, as the separator of a timer or
+    counter may be, and for bytes that aren't UTF-8 (these as \\udc and two digits)."""
     return repr(tag.decode("utf-8", "surrogateescape"))[1:-1]
 
 

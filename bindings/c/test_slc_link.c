@@ -247,6 +247,11 @@ static void lengths(void)
     spells(tag, "I:0", SLC_TYPE_I, 1, 0, 0, 4);
     memcpy(tag + 253, "01}", 4);
     same("256 bytes", parsed(tag), SLC_REFUSED_TAG_BYTES);
+    /* 255 that end with a character, and inside one */
+    memcpy(tag + 253, "\xC3\xA9", 3);
+    same("255 bytes", parsed(tag), SLC_REFUSED_TAG);
+    memcpy(tag + 253, "0\xC3", 3);
+    same("a cut character", parsed(tag), SLC_REFUSED_TAG_BYTES);
 
     /* a line that is cut inside a character */
     fed = slc_tags_feed(slc_line_empty(), bytes("\xC4"), 1, out, SLC_TAG_ROOM);

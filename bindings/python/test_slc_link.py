@@ -294,7 +294,7 @@ class TagsInUtf8(Refusing):
 
     def test_what_is_no_file_letter_name_digit_or_sign(self):
         # a capital I with a dot; a ligature of s and t; a byte order mark; wide, Arabic and raised ones; a blank that doesn't break
-        for tag in ("\u0130:0", "é:0", "ßT9:0", "\uFB06" "9:0", "ſſ9:0", "sſ:0", "\uFEFFN7:0", "\uFF2E7:0", "N7:ı", "N7:0/ı", "Nı:0", "N7\uFF1A0", "N\u0667:0",
+        for tag in ("\u0130:0", "é:0", "ßT9:0", "\uFB06" "9:0", "ſſ9:0", "sſ:0", "\uFEFFN7:0", "\uFF2E7:0", "N7:ı", "N7:é", "N7:0/ı", "Nı:0", "N7\uFF1A0", "N\u0667:0",
                     "N\u00B2:0", "N7:0{\uFF11}", "N7:0\u00A0", "T4:1.PRÉ", "ı", "ſ", "é"):
             self.refused(2, parse_tag, tag)
         # `Names .. as before`: the I of R's bit IN
@@ -308,6 +308,7 @@ class TagsInUtf8(Refusing):
         self.refused(1, parse_tag, "ı:0{" + 249 * "0" + "1}")
         self.refused(1, parse_tag, 254 * "N" + "é")
         self.refused(2, parse_tag, 253 * "N" + "é")
+        self.refused(1, parse_tag, 254 * b"N" + "é".encode()[:1])
 
     def test_names_and_texts_stay_latin_1(self):
         self.assertEqual((Text("é"), encode_ascii("é"), encode_string("é")[:4]), ((b"\xE9",), b" \xE9", b"\1\0\0\xE9"))

@@ -258,6 +258,10 @@ fn tags_that_are_not_well_formed() {
     assert_eq!((counted(248).len(), counted(249).chars().count()), (255, 255));
     assert_eq!(spelled(&counted(248)), (spelled("I:0").0, 4));
     assert_eq!(parse_tag(counted(249)), Err(Refused::TagBytes));
+    // 255 bytes that end with a character, and inside one
+    let ended = ["N".repeat(253).as_bytes(), "é".as_bytes()].concat();
+    assert_eq!(parse_tag(&ended), Err(Refused::Tag));
+    assert_eq!(parse_tag(["N".as_bytes(), &ended[..254]].concat()), Err(Refused::TagBytes));
 }
 
 #[test]

@@ -4,3 +4,4 @@ pub mod PhrasesLeave
 pub mod FormReaders
 pub mod SpellingRows
 pub mod Unchanged
+pub mod FileLetters

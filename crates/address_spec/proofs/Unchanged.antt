@@ -10,12 +10,12 @@ use lib.Dec.{leb, ltb, eqb}
 use lib.ListN.{length, drop}
 use Rattle.base.proofs.EveryPlace.{both}
 use Rattle.parser_spec.specs.DecimalNumbers.{digitRun}
-use Rattle.parser_spec.specs.Parts.{Part, then, atEnd, orElse, ended, whole, here, anyByte, one}
+use Rattle.parser_spec.specs.Parts.{Part, then, atEnd, ended, whole, here, anyByte, one}
 use Rattle.parser_spec.specs.Characters.{table, characterIn, character, characters, wellFormed, utf8, bytewise, letterOf, firstOf}
 use Rattle.parser_spec.proofs.Held.{nothing, that}
 use Rattle.parser_spec.proofs.Behind.{Leaves, any-leaves}
 use Rattle.parser_spec.proofs.Written.{behind-same}
-use Rattle.parser_spec.proofs.Characters.{small-character, small-capital, formed-next, letter-by-leaves, first-by-leaves}
+use Rattle.parser_spec.proofs.Characters.{small-character, small-capital, formed-next, letter-by-leaves, first-by-leaves, first-by}
 use Rattle.address_spec.specs.Spelling.{cut, cuts, elementName, ct, lfbn, slot, io, stOrA, sta, status, bits, orTry, lastForms, separates, formOf, accepted, ascii, addressOf, baseAddressOf, Unchanged}
 use Rattle.address_spec.specs.declared.Address.{Address}
 use Rattle.address_spec.specs.declared.Parsed.the-variants as parsed
@@ -40,32 +40,25 @@ module _ {A B : Type 0} {s : List ℕ} (e : ascii s ≡ true) where
       go (that {v = v} {r = r} b) = f v r (subst (λ (q : List ℕ). ascii q ≡ true) (b .is) (rest (length s - length r) s e))
 
 -- ---- one character, and the letters
-one-alike : (test : ℕ → Bool) (s : List ℕ) → ascii s ≡ true → one character test s ≡ one anyByte test s
-unfolding one anyByte ascii characterIn table
-one-alike test [] e = refl
-one-alike test (b ∷ s) e = behind-same _ (small-character b s (ltb-true b 128 (both (ltb b 128) (ascii s) e .0)))
-
--- a test that passes the same bytes below 128
-test-alike : (f g : ℕ → Bool) → ((x : ℕ) → x < 128 → f x ≡ g x) → (s : List ℕ) → ascii s ≡ true → one anyByte f s ≡ one anyByte g s
-unfolding one anyByte ascii then
-test-alike f g h [] e = refl
-test-alike f g h (b ∷ s) e = ap (λ (t : Bool). here t s) (h b (ltb-true b 128 (both (ltb b 128) (ascii s) e .0)))
+-- by tests that pass the same below 128
+one-alike : (f g : ℕ → Bool) → ((x : ℕ) → x < 128 → f x ≡ g x) → (s : List ℕ) → ascii s ≡ true → one character f s ≡ one anyByte g s
+unfolding one anyByte ascii characterIn table then
+one-alike f g h [] e = refl
+one-alike f g h (b ∷ s) e = let l = ltb-true b 128 (both (ltb b 128) (ascii s) e .0) in behind-same _ (small-character b s l) ∙ ap (λ (t : Bool). here t s) (h b l)
 
 letter-alike : (v : ℕ) (s : List ℕ) → ascii s ≡ true → letterOf utf8 v s ≡ letterOf bytewise v s
 unfolding letterOf
-letter-alike v s e = one-alike _ s e ∙ test-alike _ _ (λ x h. ap (λ (y : ℕ). eqb y v) (small-capital x h)) s e
+letter-alike v s e = one-alike _ _ (λ x h. ap (λ (y : ℕ). eqb y v) (small-capital x h)) s e
 
 first-alike : {A : Type 0} (xs : List (Char × A)) (s : List ℕ) → ascii s ≡ true → firstOf utf8 xs s ≡ firstOf bytewise xs s
-unfolding firstOf
-first-alike [] s e = refl
-first-alike {A} (x ∷ xs) s e = ap₂ (orElse {A = A}) (behind-same _ (letter-alike _ s e)) (first-alike xs s e)
+first-alike xs s e = first-by utf8 bytewise s s (λ v. letter-alike v s e) xs
 
 -- ---- the forms
 module _ (separator : ℕ → Bool) where
   cuts-alike : (k : ℕ) (s : List ℕ) → ascii s ≡ true → cuts character separator k s ≡ cuts anyByte separator k s
   unfolding cuts cut
   cuts-alike zero s e = refl
-  cuts-alike (suc k) s e = simp (one-alike separator (drop (suc k) s) (rest (suc k) s e), cuts-alike k s e)
+  cuts-alike (suc k) s e = simp (one-alike separator separator (λ x h. refl) (drop (suc k) s) (rest (suc k) s e), cuts-alike k s e)
 
   ct-alike : (tag : List ℕ) → ascii tag ≡ true → ct utf8 separator tag ≡ ct bytewise separator tag
   unfolding ct whole elementName

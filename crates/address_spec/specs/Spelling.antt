@@ -1,6 +1,6 @@
 -- The address spelling (document 01, "Address spelling"; document 02, A2), form by form, and questions 1 and 2, over what is read as a character and as a letter:
 -- A2's alphabet, or document 01's.
-use Prim.Native.Nat.{ℕ, zero, suc, min, _/_, _%_}
+use Prim.Native.Nat.{ℕ, zero, suc, min, _/_, _%_, _≤_}
 use Prim.Native.Char.{Char, code}
 use Prim.Native.String.{String}
 use mathlib.Core.Path.{_≡_}
@@ -205,3 +205,15 @@ baseAddressOf tag = cond (leb (length tag) 255 && ascii tag) (accepted (formOf b
 -- for a tag of bytes below 128 every answer is document 01's
 abbrev pub Unchanged : Type 0
 Unchanged = (tag : List ℕ) → ascii tag ≡ true → addressOf tag ≡ baseAddressOf tag
+
+-- the same answer, with a kept text that is one byte longer
+abbrev pub longer : Address → Address
+longer x = address (x .«file_type») (x .«file_number») (x .«element_number») (x .«pos_number») (x .«sub_element») (x .bit) (x .«element_count») (suc (x .kept))
+
+abbrev pub oneLonger : Parsed → Parsed
+oneLonger (parsed.Refused n) = parsed.Refused n
+oneLonger (parsed.Is x) = parsed.Is (longer x)
+
+-- A2: "U+0131 is an I and U+017F is an S where a file letter is read" (C4 B1, C5 BF); "The kept length counts bytes." With at most 253 bytes behind the letter both tags have at most 255.
+abbrev pub FileLetters : Type 0
+FileLetters = (s : List ℕ) → length s ≤ 253 → (addressOf (0xC4 ∷ 0xB1 ∷ s) ≡ oneLonger (addressOf (code "I" ∷ s))) × (addressOf (0xC5 ∷ 0xBF ∷ s) ≡ oneLonger (addressOf (code "S" ∷ s)))

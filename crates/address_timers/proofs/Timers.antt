@@ -26,11 +26,11 @@ use Rattle.parser.specs.CursorAnswers.{placed, eatenOf}
 use Rattle.parser.specs.declared.Cur.{Cur}
 use Rattle.parser.specs.declared.Eaten.{Eaten}
 use Rattle.parser.specs.declared.Eaten.the-variants as place
-use Rattle.parser.proofs.PartReaders.{Reads, some-eaten, stop-eaten, one-none, one-is, one-not}
+use Rattle.parser.proofs.PartReaders.{Reads, some-eaten, stop-eaten, one-is, one-not}
 use Rattle.parser_characters.specs.CharacterAnswers.{characterOf}
 use Rattle.parser_characters.specs.declared.ReadCharacter.{ReadCharacter}
 use Rattle.parser_characters.specs.declared.ReadCharacter.the-variants as read
-use Rattle.parser_characters.proofs.CharacterReaders.{none-character, some-character, past-end, small-reads}
+use Rattle.parser_characters.proofs.CharacterReaders.{some-character, small-reads}
 use Rattle.address_spec.specs.ReaderAnswers.{maybeOf, namedOf}
 use Rattle.address_spec.specs.Spelling.{ctNames, nameIn, cut, cuts, elementName}
 use Rattle.address_spec.specs.declared.Maybe.{Maybe}
@@ -110,7 +110,7 @@ module _ (s : List ℕ) (d : Digits s) (l k : ℕ) (e : length s ≡ l) (f : pac
   unfolding maybeOf
   no-name h = by-key ∙ h
 
--- a number that is that of no name of so many letters
+-- the numbers of the names of so many letters
 abbrev keysOf : ℕ → List (String × ℕ) → List ℕ
 keysOf l [] = []
 keysOf l (x ∷ xs) = cond (eqb l (length (bytes (x .0)))) (packed same 0 (bytes (x .0)) ∷ keysOf l xs) (keysOf l xs)
@@ -124,6 +124,7 @@ no-key l k (x ∷ xs) h = go (eqb l (length (bytes (x .0)))) (no-key l k xs) h
     go true f g = rw (ne-eqb k (packed same 0 (bytes (x .0))) (g .0)) (f (g .1))
     go false f g = f g
 
+-- a number that is none of them
 abbrev pub NoName : ℕ → ℕ → Type 0
 NoName l k = NoneOf same (Unit {0}) (keysOf l ctNames) k
 
@@ -173,9 +174,6 @@ module _ (test : ℕ → Bool) (s : List ℕ) (i : ℕ) where
   abbrev found : Eaten
   found = eatenOf (placed i s (one character test (drop i s)))
 
-  pub sign-end : length s ≤ i → place.No ≡ found
-  sign-end h = one-none character test s i (past-end s i h)
-
   module _ (t : Bool) (h : i < length s) (l : getD s i 0 < 128) (e : t ≡ test (getD s i 0)) where
     pub sign-here : not t ≡ false → place.At (record { i = i + 1 }) ≡ found
     sign-here n = one-is character test s i _ (record { i = i + 1 }) (small-reads s i h l) (sym e ∙ not-false t n)
@@ -183,16 +181,12 @@ module _ (test : ℕ → Bool) (s : List ℕ) (i : ℕ) where
     pub sign-not : not t ≡ true → place.No ≡ found
     sign-not n = one-not character test s i _ (record { i = i + 1 }) (small-reads s i h l) (sym e ∙ not-true t n)
 
-  module _ (r : ReadCharacter) (e : r ≡ characterOf (placed i s (character (drop i s)))) where
-    pub sign-none : r ≡ read.No → place.No ≡ found
-    sign-none g = one-none character test s i (none-character s i r e g)
+  module _ (t : Bool) (x : ℕ) (c : Cur) (r : ReadCharacter) (e : r ≡ characterOf (placed i s (character (drop i s)))) (g : r ≡ read.Got x c) (f : t ≡ test x) where
+    pub sign-is : not t ≡ false → place.At c ≡ found
+    sign-is n = one-is character test s i x c (some-character s i r e x c g) (sym f ∙ not-false t n)
 
-    module _ (t : Bool) (x : ℕ) (c : Cur) (g : r ≡ read.Got x c) (f : t ≡ test x) where
-      pub sign-is : not t ≡ false → place.At c ≡ found
-      sign-is n = one-is character test s i x c (some-character s i r e x c g) (sym f ∙ not-false t n)
-
-      pub sign-isn't : not t ≡ true → place.No ≡ found
-      sign-isn't n = one-not character test s i x c (some-character s i r e x c g) (sym f ∙ not-true t n)
+    pub sign-isn't : not t ≡ true → place.No ≡ found
+    sign-isn't n = one-not character test s i x c (some-character s i r e x c g) (sym f ∙ not-true t n)
 
 -- ---- an element, a separator and a name
 tail-is : (s : List ℕ) (f : ℕ) → take (length s - f) (drop f s) ≡ drop f s

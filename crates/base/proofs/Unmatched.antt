@@ -4,7 +4,7 @@ use mathlib.Core.Path.{_≡_}
 use mathlib.Core.List.{List, [], _∷_}
 
 module _ {A : Type 0} (key : A → ℕ) where
-  -- a number that has none of these keys, beside what else is known
+  -- a number that is the key of none of these, beside what else is known
   abbrev pub NoneOf : Type 0 → List A → ℕ → Type 0
   NoneOf X [] n = X
   NoneOf X (x ∷ xs) n = NoneOf (X × (n ≡ key x → ⊥)) xs n
@@ -14,7 +14,7 @@ module _ {A : Type 0} (key : A → ℕ) where
   Unlike [] n = Unit {0}
   Unlike (x ∷ xs) n = (n ≡ key x → ⊥) × Unlike xs n
 
-  pub one-by-one : (X : Type 0) (xs : List A) (n : ℕ) → NoneOf X xs n → X × Unlike xs n
+  one-by-one : (X : Type 0) (xs : List A) (n : ℕ) → NoneOf X xs n → X × Unlike xs n
   one-by-one X [] n h = (h, tt)
   one-by-one X (x ∷ xs) n h = let r = one-by-one (X × (n ≡ key x → ⊥)) xs n h in (r .0 .0, (r .0 .1, r .1))
 

@@ -67,10 +67,10 @@ own-code PLS = refl
 pub has-code : (t : FileType) (c : ℕ) → c ≡ row t .code → known.Is t ≡ ofCode c
 has-code t c e = own-code t ∙ ap ofCode (sym e)
 
--- a code that is none of theirs
 abbrev codeOf : FileType → ℕ
 codeOf t = row t .code
 
+-- a code that is none of theirs
 none-passes : (ts : List FileType) (c : ℕ) → Unlike codeOf ts c → known.Unknown ≡ first (λ (t : FileType). eqb (row t .code) c) ts
 unfolding first
 none-passes [] c h = refl

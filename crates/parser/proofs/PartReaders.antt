@@ -18,7 +18,7 @@ use Rattle.parser_spec.specs.Characters.{utf8, letter, firstOf}
 use Rattle.parser_spec.proofs.Held.{nothing, that, no-some}
 use Rattle.parser_spec.proofs.Behind.{Leaves, byte-leaves, numeral-leaves, digits-leaves, in-leaves, number-leaves, count-leaves}
 use Rattle.parser_spec.proofs.Characters.{letter-leaves, first-leaves, first-read, first-past}
-use Rattle.parser_spec.proofs.Written.{step, stop, after-read, after-absent}
+use Rattle.parser_spec.proofs.Written.{step, stop, after-read, after-absent, one-read}
 use Rattle.parser.specs.CursorAnswers.{endFrom, placed, eatenOf, readNumberOf, readWordOf}
 use Rattle.parser.specs.declared.Cur.{Cur}
 use Rattle.parser.specs.declared.Eaten.{Eaten}
@@ -175,8 +175,7 @@ module _ (char : Part ℕ) (test : ℕ → Bool) (s : List ℕ) (i : ℕ) where
 
   module _ (x : ℕ) (c : Cur) (h : Reads s i (char (drop i s)) x (c .i)) where
     pub one-is : test x ≡ true → place.At c ≡ eatenOf (placed i s (one char test (drop i s)))
-    unfolding one here
-    one-is e = a-place s i _ c (step _ (h .is) ∙ rw e) (h .on)
+    one-is e = a-place s i _ c (one-read char test x (h .is) e) (h .on)
 
     pub one-not : test x ≡ false → place.No ≡ eatenOf (placed i s (one char test (drop i s)))
     unfolding one here

@@ -22,7 +22,7 @@ use Rattle.parser.specs.declared.Eaten.{Eaten}
 use Rattle.parser.specs.declared.Eaten.the-variants as place
 use Rattle.parser.specs.declared.ReadWord.{ReadWord}
 use Rattle.parser.specs.declared.ReadWord.the-variants as word
-use Rattle.parser.proofs.PartReaders.{Reads, Onward, placed-at, placed-by, placed-on, next-on, gave-none, gave-some, some-word, stop-word, no-place, one-none, one-is, one-not, no-word, a-word}
+use Rattle.parser.proofs.PartReaders.{Reads, Onward, stay, placed-at, placed-by, placed-on, next-on, gave-none, gave-some, some-word, stop-word, no-place, one-none, one-is, one-not, no-word, a-word}
 use Rattle.parser_characters.specs.CharacterAnswers.{characterOf}
 use Rattle.parser_characters.specs.declared.ReadCharacter.{ReadCharacter}
 use Rattle.parser_characters.specs.declared.ReadCharacter.the-variants as read
@@ -47,7 +47,7 @@ character-told none = refl
 character-told (some p) = refl
 
 module _ (s : List ℕ) (i : ℕ) (r : ReadCharacter) (e : r ≡ characterOf (placed i s (character (drop i s)))) where
-  pub none-character : r ≡ read.No → character (drop i s) ≡ none
+  none-character : r ≡ read.No → character (drop i s) ≡ none
   none-character g = gave-none characterOf characterAt character-told s i _ r e (ap characterAt g)
 
   pub some-character : (x : ℕ) (c : Cur) → r ≡ read.Got x c → Reads s i (character (drop i s)) x (c .i)
@@ -87,11 +87,11 @@ module _ (s : List ℕ) (i first n : ℕ) (r : Range) (rs : List Range) (w : Rea
 
 pub last-byte : (s : List ℕ) (i first n : ℕ) (r : Range) (w : ReadWord) → w ≡ readWordOf (placed i s (byteIn r (drop i s))) → (a : ℕ) (c : Cur) → w ≡ word.Got a c → read.Got (first + (n * 64 + a)) c ≡ characterOf (placed i s (pointIn first n (r ∷ []) (drop i s)))
 unfolding pointIn bytesIn then
-last-byte s i first n r w e a c g = more-bytes s i first n r [] w e a c _ g (a-character s (c .i) _ (first + (n * 64 + a)) c refl (record { end = refl }))
+last-byte s i first n r w e a c g = more-bytes s i first n r [] w e a c _ g (a-character s (c .i) _ (first + (n * 64 + a)) c refl (stay s (c .i)))
 
 -- ---- the first byte, and its row
 module _ (s : List ℕ) (i : ℕ) where
-  pub past-end : length s ≤ i → character (drop i s) ≡ none
+  past-end : length s ≤ i → character (drop i s) ≡ none
   unfolding characterIn table
   past-end h = rw (drop-of-length-le s h)
 
@@ -141,6 +141,14 @@ module _ (s : List ℕ) (i : ℕ) (inv : wellFormed (drop i s) ≡ wellFormed s)
           let q : characterIn table (getD s i 0 ∷ drop (i + 1) s) ≡ some (x, drop (c .i) s) = rw (drop-next s i h) at (some-character s i r e x c g .is) in
           omega (arith, held-of (lead-read table (getD s i 0) (drop (i + 1) s)) q .shorter, length-drop (c .i) s, length-drop (i + 1) s)
 
+-- ---- one character that passes a test: there is none
+module _ (test : ℕ → Bool) (s : List ℕ) (i : ℕ) where
+  pub none-left : length s ≤ i → place.No ≡ eatenOf (placed i s (one character test (drop i s)))
+  none-left h = one-none character test s i (past-end s i h)
+
+  pub none-read : (r : ReadCharacter) → r ≡ characterOf (placed i s (character (drop i s))) → r ≡ read.No → place.No ≡ eatenOf (placed i s (one character test (drop i s)))
+  none-read r e g = one-none character test s i (none-character s i r e g)
+
 -- ---- file letters
 module _ (x : ℕ) where
   pub dotless : x ≡ 0x131 → 73 ≡ capital x
@@ -184,7 +192,7 @@ module _ (s : List ℕ) (i v : ℕ) where
 
   pub letter-end : length s ≤ i → place.No ≡ found
   unfolding letterOf
-  letter-end h = one-none character _ s i (past-end s i h)
+  letter-end h = none-left _ s i h
 
   module _ (b : ℕ) (h : i < length s) (g : b ≡ upper (getD s i 0)) where
     up : getD s i 0 < 128 → b ≡ capital (getD s i 0)
@@ -210,7 +218,7 @@ module _ (s : List ℕ) (i v : ℕ) where
   module _ (r : ReadCharacter) (e : r ≡ characterOf (placed i s (character (drop i s)))) where
     pub letter-none : r ≡ read.No → place.No ≡ found
     unfolding letterOf
-    letter-none g = one-none character _ s i (none-character s i r e g)
+    letter-none g = none-read _ s i r e g
 
     module _ (x y : ℕ) (c : Cur) (g : r ≡ read.Got x c) (f : y ≡ capital x) where
       pub letter-is : y ≡ v → place.At c ≡ found

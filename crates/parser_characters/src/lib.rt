@@ -144,8 +144,8 @@ fn letter_of(c: Cur, s: &[u8], v: u8) -> Eaten
     Eaten::No
 }
 
-// A file letter: this capital one in either case, ı for I and ſ for S. A byte below 128 needs no decoding; and `v` is a constant where this is called, so that
-// only I and S, which alone have a form above U+007F, are asked for one.
+// A file letter: this capital one in either case, ı for I and ſ for S. A byte below 128 needs no decoding, and of the letters below 128 only I and S have a form
+// above U+007F. `v` is such a letter, and a constant, wherever this is called.
 pub fn letter(c: Cur, s: &[u8], v: u8) -> Eaten
     ensures { λ r. ⌜ r ≡ eatenOf (readAt (c .i) (now (s .entry)) (letterOf utf8 v)) ⌝ }
 {

@@ -1,7 +1,7 @@
--- Laws of characters: what one leaves, which row gives it, a text of them step by step, bytes below 128.
+-- Laws of characters: what one leaves, which row gives it, a text of them step by step, bytes below 128; and of the letters that they stand for.
 use Prim.Native.Nat.{ℕ, zero, suc, _+_, _*_, _-_, _≤_, _<_}
 use Prim.Native.Char.{Char}
-use mathlib.Core.Path.{_≡_, refl, ap, sym, subst, _∙_}
+use mathlib.Core.Path.{_≡_, refl, ap, ap₂, sym, subst, _∙_}
 use mathlib.Core.List.{List, [], _∷_}
 use mathlib.Core.Option.{Option, none, some}
 use mathlib.Core.Bool.{Bool, true, false, _&&_, cond, and-false}
@@ -16,7 +16,7 @@ use Rattle.parser_spec.specs.Parts.{then, here, orElse, atEnd, one}
 use Rattle.parser_spec.specs.Characters.{Range, within, Row, row, table, byteIn, bytesIn, pointIn, characterIn, character, onward, characters, wellFormed, Alphabet, capital, utf8, letterOf, letter, firstOf}
 use Rattle.parser_spec.proofs.Held.{Holds, nothing, that, weaker, and-any, or-held, held-of, Read, one-held, no-some}
 use Rattle.parser_spec.proofs.Behind.{Leaves, behind-drop, further, then-leaves, give-leaves, one-leaves}
-use Rattle.parser_spec.proofs.Written.{one-read}
+use Rattle.parser_spec.proofs.Written.{behind-same, one-read}
 
 -- ---- what a character leaves
 tested : {A : Type 0} {P : A → List ℕ → Type 0} (t : Bool) {x y : Option (A × List ℕ)} → Holds P x → Holds P y → Holds P (cond t x y)
@@ -63,6 +63,12 @@ letter-leaves v s = letter-by-leaves utf8 character-leaves v s
 
 pub first-leaves : {A : Type 0} (xs : List (Char × A)) (s : List ℕ) → Leaves s (firstOf utf8 xs s)
 first-leaves xs s = first-by-leaves utf8 character-leaves xs s
+
+-- ---- two texts in which the same letters stand first, by alphabets of theirs
+pub first-by : {A : Type 0} (a b : Alphabet) (s t : List ℕ) → ((v : ℕ) → letterOf a v s ≡ letterOf b v t) → (xs : List (Char × A)) → firstOf a xs s ≡ firstOf b xs t
+unfolding firstOf
+first-by a b s t f [] = refl
+first-by {A} a b s t f (x ∷ xs) = ap₂ (orElse {A = A}) (behind-same _ (f _)) (first-by a b s t f xs)
 
 -- ---- what holds of what is read, and what was written
 abbrev pub AllOf : {X : Type 0} → (X → Type 0) → List (Char × X) → Type 0
@@ -216,7 +222,7 @@ module _ (b : ℕ) (s : List ℕ) where
 -- ---- the capital letters of characters
 -- only two characters stand for another letter than in document 01
 pub other-capital : (x : ℕ) → (x ≡ 0x131 → ⊥) → (x ≡ 0x17F → ⊥) → capital x ≡ upper x
-other-capital x d l = rw (ne-eqb x 0x131 d, ne-eqb x 0x17F l)
+other-capital x d l = simp (ne-eqb x 0x131 d, ne-eqb x 0x17F l)
 
 pub small-capital : (x : ℕ) → x < 128 → capital x ≡ upper x
 small-capital x h = other-capital x (λ e. omega arith) (λ e. omega arith)

@@ -1,12 +1,12 @@
 -- What holds of whatever a part reads: a law for each part, so that a fact about accepted texts is one line a form.
 use Prim.Native.Nat.{ℕ, _≤_, _<_}
-use mathlib.Core.Path.{_≡_, refl, ap, ap₂, sym, _∙_, subst}
+use mathlib.Core.Path.{_≡_, refl, ap, sym, _∙_, subst}
 use mathlib.Core.List.{List, [], _∷_}
 use mathlib.Core.Option.{Option, none, some}
 use mathlib.Core.Bool.{Bool, true, false, _&&_, cond}
 use native.Mathlib.Omega.{arith}
 use borrow.Author.Tests.{eqb-true, leb-true, ltb-true}
-use lib.Dec.{leb, ltb, eqb}
+use lib.Dec.{leb, ltb}
 use lib.ListN.{take, drop}
 use Rattle.parser_spec.specs.DecimalNumbers.{digitRun, most, numberOf}
 use Rattle.parser_spec.specs.Parts.{Part, then, orElse, ended, whole, atEnd, here, anyByte, one, byte, numeral, digits, digitsIn, behind, afterByte, countNumber, countOf}
@@ -97,8 +97,8 @@ any-held [] = nothing
 any-held (b ∷ s) = that refl
 
 pub byte-held : (v : ℕ) (s : List ℕ) → Holds (λ (u : Unit {0}) (r : List ℕ). s ≡ v ∷ r) (byte v s)
-unfolding byte one
-byte-held v s = and-next (any-held s) λ b r e. weaker (λ u q h. e ∙ ap₂ (λ (x : ℕ) (l : List ℕ). x ∷ l) (eqb-true b v (h .0)) (sym (h .1))) (here-held (eqb b v) r)
+unfolding byte
+byte-held v s = weaker (λ u r h. held-of (any-held s) (h .text) ∙ ap (λ (b : ℕ). b ∷ r) (eqb-true _ _ (h .passes))) (one-held anyByte _ s)
 
 -- ---- numbers
 pub record Numeral (s : List ℕ) (n : ℕ) (r : List ℕ) : Type 0 where

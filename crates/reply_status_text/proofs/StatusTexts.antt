@@ -53,10 +53,10 @@ pub row-told : (code : ℕ) (l m : List ℕ) (r : StatusText) (status : ℕ) (te
 unfolding textOf
 row-told code l m r status text e f w = subst (λ (t : Option (List ℕ)). Tells t l r m) (sym (ap (textIn texts) e ∙ f)) w
 
--- a status that is none of the codes
 abbrev codeOf : ℕ × List ℕ → ℕ
 codeOf row = row .0
 
+-- a status that is none of the codes
 none-passes : (rows : List (ℕ × List ℕ)) (c : ℕ) → Unlike codeOf rows c → textIn rows c ≡ none
 none-passes [] c h = refl
 none-passes (row ∷ rows) c h = rw (ne-eqb (row .0) c (λ (e : row .0 ≡ c). h .0 (sym e))) (none-passes rows c (h .1))

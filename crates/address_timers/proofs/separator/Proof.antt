@@ -1,4 +1,5 @@
-use Rattle.address_timers.proofs.Timers.{sign-end, sign-here, sign-not}
+use Rattle.parser_characters.proofs.CharacterReaders.{none-left}
+use Rattle.address_timers.proofs.Timers.{sign-here, sign-not}
 use borrow.Author.Needs.{needs}
 use Rattle.address_timers.proofs.separator.Statement.{statement}
 use Rattle.address_timers.proofs.separator.Tie as tie
@@ -7,7 +8,7 @@ pub separator-spec : {M : Type 1} → statement M
 separator-spec =
     tie.close
     (tie.spec
-    (λ c. search (sign-end, needs))
+    (λ c. search (none-left, needs))
     (λ c. search needs)
     (λ c κs. search needs)
     (λ c. search needs)

@@ -1,9 +1,9 @@
 //! The oracle: one request a line on standard input, one answer a line on standard output (PROTOCOL.md).
 //!
-//! `oracle`        document 01's view: its added questions are asked, refusals are its numbers
+//! `oracle`        document 01's view: its added questions are asked (1 as document 02's A2 has it), refusals are its numbers
 //! `oracle --raw`  the Rust's view: no added question, the Rust's own errors
 //! `oracle tags`   the program `tags` of document 01 (lines are tags; read request or `refused n`)
-//! `oracle short N [ALPHABET]`  all accepted tags of at most N bytes (document 02's A13), in hexadecimal
+//! `oracle short N [ALPHABET]`  all accepted tags of at most N bytes, of those below 128 or of ALPHABET's (document 02's A13), in hexadecimal
 use ciplink::slc::pccc::{self, Requestor};
 use oracle::answer::Oracle;
 use oracle::hex::hex;

@@ -51,6 +51,13 @@ pub fn sampled() -> Vec<String> {
     others.map(String::from).collect()
 }
 
+/// The calls of these areas, without `room`, which is a word before a call.
+pub fn calls() -> Vec<&'static str> {
+    let areas = AREAS.iter().filter(|a| a.name != ROOM);
+    let calls = areas.flat_map(|a| a.calls).copied();
+    calls.filter(|&call| call != ROOM).collect()
+}
+
 /// One line of each area in turn; all areas where none is named. None for an unknown name.
 pub fn lines(seed: u64, chosen: &[String]) -> Option<Lines> {
     if chosen.iter().any(|c| !names().contains(&c.as_str())) {

@@ -1,8 +1,9 @@
 //! `vectors DIR BY-HAND SEED N`: writes DIR/stdin and DIR/stdout, the sample that the repository's gate replays.
 //!
-//! It takes the lines that settle a rule, then of N generated lines some of every call, kind, type and answer, up to `ROOM` bytes; the
-//! answers are the oracle's, and lines that the Rust cannot be asked are left out. Then come the lines of BY-HAND: `> request`
-//! and `< answer`, comments as they are. Where the oracle can answer one of these, it must give the same answer.
+//! It takes the lines that settle a rule, then of N generated lines some of every call, kind, type and answer, with tags below U+0080 and
+//! past it, up to `ROOM` bytes; the answers are the oracle's, and lines that the Rust cannot be asked are left out. A call of which there
+//! is no line is an error. Then come the lines of BY-HAND: `> request` and `< answer`, comments as they are. Where the oracle can answer
+//! one of these, it must give the same answer.
 use oracle::answer::{Oracle, not_asked};
 use oracle::areas;
 use oracle::protocol::{Count, call, split};
@@ -11,7 +12,7 @@ use std::collections::{BTreeMap, BTreeSet};
 use std::process::ExitCode;
 
 /// Bytes of both files, and of a request with its answer.
-const ROOM: usize = 126_500;
+const ROOM: usize = 142_000;
 const SHORT: usize = 999;
 /// So many longer ones, up to this size, are taken as well.
 const LONGER: (usize, usize) = (2, 3_000);
@@ -36,13 +37,25 @@ const CODES: &[&[u8]] = &[
     b"93", b"94",
 ];
 
-/// Calls whose whole question is one code: one line of each is enough.
+/// Calls whose first field is a type code.
+const TYPED: &[&str] = &["ft", "simft", "enc", "dec"];
+
+/// Calls whose whole question is one code: one line of each is enough, and of codes that stand for nothing some.
 const BY_CODE: &[&str] = &["ft", "simft", "errtext"];
+const NONE: &[u8] = b"ok none";
+
+/// Calls with a tag, in hexadecimal.
+const TAGGED: &[&str] = &["tag", "read", "write"];
+
+/// Has the tag a byte above 127?
+fn past_ascii(tag: &[u8]) -> bool {
+    tag.chunks(2).any(|b| b"89ABCDEFabcdef".contains(&b[0]))
+}
 
 /// What a line shows: its call (none for echoed lines and strange words) and its sort of answer.
 type Group = (&'static str, Vec<u8>);
 
-/// The group of a line, and the part of the group: the type code, where it is a known one, and the kind.
+/// The group of a line, and the part of the group: the type code, where it is a known one, the kind, and whether a tag goes past U+007F.
 fn group(line: &[u8], answer: &[u8]) -> (Group, Vec<u8>) {
     let fields = split(line);
     if line == answer {
@@ -54,28 +67,36 @@ fn group(line: &[u8], answer: &[u8]) -> (Group, Vec<u8>) {
     if answer.starts_with(b"error ") {
         return ((name, answer.to_vec()), Vec::new());
     }
-    let sort = match answer.starts_with(b"ok ") && *name != "ftname" {
+    let sort = match answer.starts_with(b"ok ") && answer != NONE && *name != "ftname" {
         true => b"ok".to_vec(),
         false => answer.to_vec(),
     };
     let mut part = fields.get(1).map_or(Vec::new(), |f| f.to_ascii_uppercase());
-    if !BY_CODE.contains(name) && !CODES.contains(&&part[..]) {
+    let known = TYPED.contains(name) && CODES.contains(&&part[..]);
+    if !known && !BY_CODE.contains(name) {
         part.clear();
     }
     if let Count::Kind(at, _) = count {
         part.extend(fields[*at]);
     }
+    if TAGGED.contains(name) && past_ascii(fields[1]) {
+        part.push(b'+');
+    }
     ((name, sort), part)
 }
 
-/// Is the line's call, also behind `room`, one of a processor?
-fn stateful(line: &[u8]) -> bool {
+/// The line's call, also behind `room`.
+fn word(line: &[u8]) -> &[u8] {
     let fields = split(line);
-    let word = match fields[0] {
+    match fields[0] {
         b"room" => fields.get(2).copied().unwrap_or_default(),
         word => word,
-    };
-    STATEFUL.contains(&word)
+    }
+}
+
+/// Is it one of a processor?
+fn stateful(line: &[u8]) -> bool {
+    STATEFUL.contains(&word(line))
 }
 
 /// Runs on processors that the Rust can be asked about whole.
@@ -106,7 +127,7 @@ fn runs(seed: u64, n: usize) -> Vec<Vec<u8>> {
     taken
 }
 
-/// How many lines of a group are taken at most, after one of each part.
+/// How many lines of a group are taken at most, after one of each part; of codes that stand for nothing, as many as there is room for.
 fn most((call, answer): &Group) -> usize {
     match (*call, answer.starts_with(b"error ")) {
         ("", true) => 40,
@@ -162,15 +183,23 @@ fn sample(seed: u64, n: usize, room: usize) -> Vec<Vec<u8>> {
         }
         fits
     };
-    // one of each part, then of each group some more, part by part, as long as there is room
+    // one of each part, then of each group in turn some more, part by part, as long as there is room
     let mut rest: Vec<(usize, Vec<Line>)> = Vec::new();
-    for (group, parts) in groups {
-        let mut parts: Vec<Vec<Line>> = parts.into_values().collect();
-        for lines in &mut parts {
-            rng.shuffle(lines);
-            lines.pop().map(&mut take);
-        }
+    for (group, mut parts) in groups {
         let mut left = Vec::new();
+        if BY_CODE.contains(&group.0) && group.1 == NONE {
+            parts.retain(|code, lines| {
+                let known = CODES.contains(&&code[..]);
+                left.extend(lines.pop_if(|_| !known));
+                known
+            });
+            rng.shuffle(&mut left);
+        }
+        let mut parts: Vec<Vec<Line>> = parts.into_values().collect();
+        parts.iter_mut().for_each(|lines| rng.shuffle(lines));
+        for line in parts.iter_mut().filter_map(Vec::pop) {
+            take(line);
+        }
         while left.len() < most(&group) && parts.iter().any(|p| !p.is_empty()) {
             left.extend(parts.iter_mut().filter_map(Vec::pop));
         }
@@ -235,13 +264,21 @@ fn run(dir: &str, hand: &str, seed: u64, n: usize) -> Result<String, String> {
     let room: usize = worked.iter().map(|(r, a)| r.len() + a.len() + 2).sum();
     let room = ROOM.saturating_sub(room + RUNS + 2 * (head.len() + 1));
     let mut generated = 0;
+    let mut missing: BTreeSet<&[u8]> = areas::calls().iter().map(|c| c.as_bytes()).collect();
     for line in sample(seed, n, room).into_iter().chain(runs(seed, n)) {
         // asked again, since an answer may depend on the lines before
         let answer = oracle.line(&line);
         if not_asked(&answer).is_none() {
             put(&line, &answer);
+            if !answer.starts_with(b"error ") {
+                missing.remove(word(&line));
+            }
             generated += 1;
         }
+    }
+    if let Some(call) = missing.first() {
+        let call = call.escape_ascii();
+        return Err(format!("no line of {call}: N, ROOM or RUNS is too small"));
     }
     let mut alone = 0;
     for (request, answer) in &worked {
