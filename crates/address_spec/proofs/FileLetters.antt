@@ -77,18 +77,18 @@ module _ (tag plain s : List ℕ) (x y : ℕ) (e : character tag ≡ some (x, s)
 
   sta-longer : (st : Bool) → LongerForm (sta utf8 st tag) (sta utf8 st plain)
   unfolding sta whole
-  sta-longer st = ended-longer (same-then (st-same st) λ t r. any-then _ λ f r. any-then _ λ n r. any-then _ λ z r. that (rw part))
+  sta-longer st = ended-longer (same-then (st-same st) λ t r. any-then _ λ f r. any-then _ λ n r. any-then _ λ z r. that (simp part))
 
   -- the forms in turn, one to a line: C and T; L, F, B and N; I and O; ST and A; S; B by its bits
   form-longer : LongerForm (formOf utf8 separates tag) (formOf utf8 separates plain)
   unfolding formOf ct lfbn io slot lastForms status bits whole
   form-longer =
-      try-longer (ended-longer (same-then (first-same _) λ t r. any-then _ λ f r. any-then _ λ z r. any-then _ λ _ r. that (rw all)))
-      (try-longer (ended-longer (same-then (first-same _) λ t r. any-then _ λ f r. any-then _ λ n r. any-then _ λ z r. that (rw part)))
-      (try-longer (ended-longer (same-then (behind-same _ (first-same _)) λ t r. any-then _ λ n r. any-then _ λ p r. any-then _ λ z r. that (rw part)))
+      try-longer (ended-longer (same-then (first-same _) λ t r. any-then _ λ f r. any-then _ λ z r. any-then _ λ _ r. that (simp all)))
+      (try-longer (ended-longer (same-then (first-same _) λ t r. any-then _ λ f r. any-then _ λ n r. any-then _ λ z r. that (simp part)))
+      (try-longer (ended-longer (same-then (behind-same _ (first-same _)) λ t r. any-then _ λ n r. any-then _ λ p r. any-then _ λ z r. that (simp part)))
       (try-longer (sta-longer true) (try-longer (sta-longer false)
-      (try-longer (ended-longer (same-then (letter-same _) λ _ r. any-then _ λ _ r. any-then _ λ n r. any-then _ λ z r. that (rw (kept-longer (z .0)))))
-      (ended-longer (same-then (letter-same _) λ _ r. any-then _ λ f r. any-then _ λ z r. any-then _ λ n r. that (rw part))))))))
+      (try-longer (ended-longer (same-then (letter-same _) λ _ r. any-then _ λ _ r. any-then _ λ n r. any-then _ λ z r. that (simp (kept-longer (z .0)))))
+      (ended-longer (same-then (letter-same _) λ _ r. any-then _ λ f r. any-then _ λ z r. any-then _ λ n r. that (simp part))))))))
 
   tag-longer : length tag ≤ 255 → addressOf tag ≡ oneLonger (addressOf plain)
   unfolding addressOf
