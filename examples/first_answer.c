@@ -34,7 +34,7 @@ int main(void)
 
     uint8_t message[SLC_REQUEST_ROOM];
     const char *tag = "N7:0";
-    slc_request request = slc_read_request((const uint8_t *)tag, strlen(tag), slc_default_requestor(), 0x1234, message, sizeof message);
+    slc_request request = slc_read_request((const uint8_t *)tag, strlen(tag), SLC_READING_NEW, slc_default_requestor(), 0x1234, message, sizeof message);
     if (request.address.refused)
         return refused("slc_read_request", request.address.refused);
     print("request", message, request.length);

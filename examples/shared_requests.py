@@ -1,7 +1,8 @@
 """Which addresses of a list share one read request: a capture can't tell these apart.
 
-Takes addresses in UTF-8, one to a line. Prints each request from its function byte on (in the 17 bytes in front only requester and sequence number vary), what it
-reads, and under it the addresses that give it. After `./slc lib python`:
+Takes a stored list of addresses in UTF-8, one to a line: T4:123PRE is element 12 in it, as every separator but a newline is taken. Prints each request from its
+function byte on (in the 17 bytes in front only requester and sequence number vary), what it reads, and under it the addresses that give it. After
+`./slc lib python`:
 
     PYTHONPATH=bindings/python python3 examples/shared_requests.py [FILE]
 
@@ -17,7 +18,7 @@ import sys
 from io import TextIOWrapper
 from pathlib import Path
 
-from slc_link import Address, Refused, read_request
+from slc_link import Address, Reading, Refused, read_request
 
 # behind CIP service and path (6), the requester's id (7), CMD, STS and the sequence number
 FUNCTION_AT = 17
@@ -35,7 +36,7 @@ def grouped(lines: list[bytes]) -> tuple[dict[bytes, tuple[Address, list[bytes]]
     refused: list[str] = []
     for number, tag in enumerate(lines, 1):
         try:
-            request = read_request(tag)
+            request = read_request(tag, reading=Reading.STORED)
             groups.setdefault(request.message, (request.address, []))[1].append(tag)
         except Refused as why:
             if tag:

@@ -20,7 +20,7 @@ extern "C" {
 
 /* the version of this interface */
 #define SLC_LINK_VERSION_MAJOR 0
-#define SLC_LINK_VERSION_MINOR 2
+#define SLC_LINK_VERSION_MINOR 3
 #define SLC_LINK_VERSION_PATCH 0
 
 /* ---- numbers ---- */
@@ -32,6 +32,7 @@ enum {
     SLC_STATUS_ROOM = 96,                /* output of a status in words */
     SLC_REPLY_ROOM = 514,                /* reply memory of slc_pccc */
     SLC_TEXT_ROOM = 82,                  /* text memory, where the element that is read is text */
+    SLC_DOTTED_ROOM = 255,               /* output of slc_dotted */
     SLC_TAG_ROOM = 64,                   /* output of slc_tags_feed for each byte of the piece, and of slc_tags_finish */
     SLC_MOST_FILES = 256,                /* records in the table of a processor */
     SLC_MOST_DATA = 65535,               /* bytes of its data; also of a file directory, and the highest offset in one */
@@ -41,7 +42,7 @@ enum {
     SLC_DATA_AT = 11                     /* the place in a reply where its data begins, where the requester's id has the usual 7 bytes */
 };
 
-/* The questions, each with its number as a name. In full, and in the order in which each call asks them: docs/QUESTIONS.md. */
+/* The questions, each with its number as a name; a number that isn't here is none. In full, and in the order in which each call asks them: docs/QUESTIONS.md. */
 enum {
     SLC_REFUSED_TAG_BYTES = 1,           /* Is the tag at most 255 bytes and well-formed UTF-8? */
     SLC_REFUSED_TAG = 2,                 /* Does the tag spell an address? */
@@ -68,7 +69,8 @@ enum {
     SLC_REFUSED_TEXT_LENGTH = 23,        /* Is the text for ST at most 82 bytes? */
     SLC_REFUSED_TEXT_ROOM = 24,          /* Has the text memory 82 bytes? */
     SLC_REFUSED_REPLY_LENGTH = 25,       /* Has the reply 63 bytes? */
-    SLC_REFUSED_OFFSET = 26              /* Is the offset at most 65,535? */
+    SLC_REFUSED_OFFSET = 26,             /* Is the offset at most 65,535? */
+    SLC_REFUSED_SEPARATOR = 39           /* Is a timer's or counter's separator in a new entry a full stop or a slash? */
 };
 
 /* the PCCC type codes of the fifteen file types; the simulated processor knows the twelve up to L */
@@ -137,7 +139,13 @@ uint8_t slc_encode_element(uint8_t code, slc_value value, const uint8_t *text, s
 slc_element slc_decode_element(uint8_t code, const uint8_t *element, size_t element_len, uint8_t *text, size_t text_len);
 
 /* ---- addresses and requests: a tag is UTF-8 of at most 255 bytes. Where a file letter is read, U+0131 (dotless i) is an I and U+017F (long s) an S.
-   The separator between the element and the name of a timer or counter address is one character that isn't a newline ---- */
+   The separator between the element and the name of a timer or counter address is one character that isn't a newline, in a new entry a full stop or a
+   slash ---- */
+
+/* The two readings of a tag; which one holds stands behind it in a call. They differ in the separator alone. T4:123PRE in a stored list is element 12,
+   for the digit 3 is its separator; as a new entry it is refused (39), and T4:12.PRE and T4:12/PRE are accepted. Any number but SLC_READING_STORED is a
+   new entry, which takes nothing that a stored list doesn't: so no other value of this byte lets such a spelling in. */
+enum { SLC_READING_NEW = 0, SLC_READING_STORED = 1 };
 
 typedef struct {
     uint8_t refused;
@@ -155,20 +163,25 @@ typedef struct {
 typedef struct { uint8_t vid[2]; uint8_t vsn[4]; } slc_requestor;       /* who asks: vendor and serial bytes, as sent */
 typedef struct { slc_address address; size_t length; } slc_request;     /* refused: address.refused */
 
-/* The address that a tag spells. Refused: 1, 2. */
-slc_address slc_parse_tag(const uint8_t *tag, size_t tag_len);
+/* The address that a tag spells. Refused: 1, 2, 39. */
+slc_address slc_parse_tag(const uint8_t *tag, size_t tag_len, uint8_t reading);
+
+/* The text of a tag of a stored list with a timer's or counter's separator replaced by a full stop; any other tag as it is, with its count. The
+   text is accepted as a new entry and names the same address; only `kept` may be less, where the separator had several bytes. `out` needs SLC_DOTTED_ROOM bytes, however short the text
+   is. Refused: 1, 2, 6. */
+slc_written slc_dotted(const uint8_t *tag, size_t tag_len, uint8_t *out, size_t out_len);
 
 /* 09 10 and 09 10 19 71. */
 slc_requestor slc_default_requestor(void);
 
-/* The message that reads what a tag names; `out` needs SLC_REQUEST_ROOM bytes. Refused: 1, 2, 3, 5, 6. */
-slc_request slc_read_request(const uint8_t *tag, size_t tag_len, slc_requestor q, uint16_t sequence, uint8_t *out, size_t out_len);
+/* The message that reads what a tag names; `out` needs SLC_REQUEST_ROOM bytes. Refused: 1, 2, 39, 3, 5, 6. */
+slc_request slc_read_request(const uint8_t *tag, size_t tag_len, uint8_t reading, slc_requestor q, uint16_t sequence, uint8_t *out, size_t out_len);
 
 enum { SLC_RAW = 0, SLC_FALSE = 1, SLC_TRUE = 2, SLC_LATIN1 = 3 };
 
 /* The message that writes raw bytes (mask and data), false, true or text to what a tag names; `out` needs SLC_WRITE_ROOM bytes. `bytes` has the
-   raw bytes or the text. Another kind suits no address (4). Refused: 1 to 6. */
-slc_request slc_write_request(const uint8_t *tag, size_t tag_len, uint8_t kind, const uint8_t *bytes, size_t bytes_len, slc_requestor q, uint16_t sequence, uint8_t *out, size_t out_len);
+   raw bytes or the text. Another kind suits no address (4). Refused: 1, 2, 39, 3 to 6. */
+slc_request slc_write_request(const uint8_t *tag, size_t tag_len, uint8_t reading, uint8_t kind, const uint8_t *bytes, size_t bytes_len, slc_requestor q, uint16_t sequence, uint8_t *out, size_t out_len);
 
 /* The messages that ask for the processor's type, and for the oldest entry of a datalog queue; `out` needs SLC_REQUEST_ROOM bytes.
    Refused: 6. */
@@ -270,7 +283,7 @@ slc_element slc_read(slc_processor slc, const slc_file_record *table, size_t tab
 uint8_t slc_set(slc_processor slc, const slc_file_record *table, size_t table_len, uint8_t *memory, size_t memory_len, const uint8_t *log, size_t log_len,
                 slc_setting to, const uint8_t *text, size_t text_len);
 
-/* ---- the program `tags` on memories: a read request for each line, default requester, sequence 0 ---- */
+/* ---- the program `tags` on memories: a read request for each line, a new entry, with the default requester and sequence 0 ---- */
 
 typedef struct { uint8_t bytes[256]; size_t kept; } slc_line;           /* what is kept of a line that hasn't ended */
 typedef struct { slc_line line; size_t taken, used; } slc_fed;          /* bytes taken of the piece, bytes written to the output */

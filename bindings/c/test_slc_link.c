@@ -29,19 +29,40 @@ static uint32_t found[2][4];
 
 /* ---- calls in short */
 
-static uint8_t read_request(const char *tag, size_t room)
+static uint8_t parsed_as(uint8_t reading, const char *tag)
 {
-    return slc_read_request(bytes(tag), strlen(tag), slc_default_requestor(), 0, out, room).address.refused;
+    return slc_parse_tag(bytes(tag), strlen(tag), reading).refused;
 }
 
+static uint8_t read_request_as(uint8_t reading, const char *tag, size_t room)
+{
+    return slc_read_request(bytes(tag), strlen(tag), reading, slc_default_requestor(), 0, out, room).address.refused;
+}
+
+static uint8_t write_request_as(uint8_t reading, const char *tag, uint8_t kind, size_t length, size_t room)
+{
+    return slc_write_request(bytes(tag), strlen(tag), reading, kind, zeros, length, slc_default_requestor(), 0, out, room).address.refused;
+}
+
+/* as from a stored list, which may have all that a new entry may be */
 static uint8_t parsed(const char *tag)
 {
-    return slc_parse_tag(bytes(tag), strlen(tag)).refused;
+    return parsed_as(SLC_READING_STORED, tag);
+}
+
+static uint8_t read_request(const char *tag, size_t room)
+{
+    return read_request_as(SLC_READING_STORED, tag, room);
 }
 
 static uint8_t write_request(const char *tag, uint8_t kind, size_t length, size_t room)
 {
-    return slc_write_request(bytes(tag), strlen(tag), kind, zeros, length, slc_default_requestor(), 0, out, room).address.refused;
+    return write_request_as(SLC_READING_STORED, tag, kind, length, room);
+}
+
+static slc_written dotted(const char *tag, size_t room)
+{
+    return slc_dotted(bytes(tag), strlen(tag), out, room);
 }
 
 static uint8_t directory_read(size_t offset, size_t room)
@@ -105,6 +126,8 @@ static void rooms(void)
     same("less for slc_error_text", slc_error_text(0x10, out, SLC_STATUS_ROOM - 1).refused, SLC_REFUSED_OUTPUT_ROOM);
     same("SLC_STATUS_ROOM for slc_request_status", slc_request_status(zeros, 0, out, SLC_STATUS_ROOM).refused, 0);
     same("less for slc_request_status", slc_request_status(zeros, 0, out, SLC_STATUS_ROOM - 1).refused, SLC_REFUSED_OUTPUT_ROOM);
+    same("SLC_DOTTED_ROOM", dotted("N7:0", SLC_DOTTED_ROOM).refused, 0);
+    same("less for slc_dotted", dotted("N7:0", SLC_DOTTED_ROOM - 1).refused, SLC_REFUSED_OUTPUT_ROOM);
     same("SLC_TEXT_ROOM", slc_decode_element(SLC_TYPE_ST, zeros, 84, out, SLC_TEXT_ROOM).refused, 0);
     same("less for slc_decode_element", slc_decode_element(SLC_TYPE_ST, zeros, 84, out, SLC_TEXT_ROOM - 1).refused, SLC_REFUSED_TEXT_ROOM);
     same("SLC_TAG_ROOM", slc_tags_finish(slc_tags_feed(slc_line_empty(), bytes("N"), 1, out, SLC_TAG_ROOM).line, out, SLC_TAG_ROOM) > 0, 1);
@@ -140,12 +163,13 @@ static void most(void)
     same("an entry more", built_with(SLC_MOST_FILES, SLC_MOST_DATA, "", SLC_MOST_LOG, SLC_MOST_ENTRIES + 1, 0), SLC_REFUSED_DATALOG);
 }
 
-/* each number up to the last one has a question, and no other number has one */
+/* each number that has a name has a question, and no other number has one */
 static void questions(void)
 {
     unsigned n;
     for (n = 0; n < 256; n++)
-        same("a question of the number", slc_question((uint8_t)n, out, SLC_STATUS_ROOM).length > 0, n >= SLC_REFUSED_TAG_BYTES && n <= SLC_REFUSED_OFFSET);
+        same("a question of the number", slc_question((uint8_t)n, out, SLC_STATUS_ROOM).length > 0,
+             (n >= SLC_REFUSED_TAG_BYTES && n <= SLC_REFUSED_OFFSET) || n == SLC_REFUSED_SEPARATOR);
     same("less for slc_question", slc_question(SLC_REFUSED_COMMAND, out, SLC_STATUS_ROOM - 1).refused, SLC_REFUSED_OUTPUT_ROOM);
     same("the longest question", slc_question(SLC_REFUSED_COMMAND, out, SLC_STATUS_ROOM).length, 89);
 }
@@ -154,8 +178,8 @@ static void questions(void)
 
 static void refusals(void)
 {
-    same("TAG_BYTES", slc_parse_tag(zeros, 256).refused, SLC_REFUSED_TAG_BYTES);
-    same("TAG", slc_parse_tag(bytes("N7"), 2).refused, SLC_REFUSED_TAG);
+    same("TAG_BYTES", slc_parse_tag(zeros, 256, SLC_READING_NEW).refused, SLC_REFUSED_TAG_BYTES);
+    same("TAG", slc_parse_tag(bytes("N7"), 2, SLC_READING_NEW).refused, SLC_REFUSED_TAG);
     same("BIT_COUNT", read_request("N7:0/3{2}", SLC_REQUEST_ROOM), SLC_REFUSED_BIT_COUNT);
     same("VALUE", write_request("N7:0", SLC_TRUE, 0, SLC_WRITE_ROOM), SLC_REFUSED_VALUE);
     same("SIZE", read_request("N7:0{128}", SLC_REQUEST_ROOM), SLC_REFUSED_SIZE);
@@ -174,6 +198,82 @@ static void refusals(void)
     same("NUMBER", encoded(SLC_TYPE_N, value(SLC_WHOLE, 65536), "", 2), SLC_REFUSED_NUMBER);
     same("TEXT_LENGTH", slc_encode_element(SLC_TYPE_ST, value(SLC_TEXT, 0), zeros, 83, out, 84), SLC_REFUSED_TEXT_LENGTH);
     same("REPLY_LENGTH", slc_parse_file_directory_size(zeros, 62, slc_sys0_info(zeros, 0)).refused, SLC_REFUSED_REPLY_LENGTH);
+    same("SEPARATOR", parsed_as(SLC_READING_NEW, "T4:123PRE"), SLC_REFUSED_SEPARATOR);
+}
+
+/* ---- the two readings of a tag */
+
+/* The tag, which only a stored list may have, has this dotted text, which is a new entry of the same address. */
+static void retired(const char *tag, const char *plain)
+{
+    slc_address a = slc_parse_tag(bytes(tag), strlen(tag), SLC_READING_STORED), b = slc_parse_tag(bytes(plain), strlen(plain), SLC_READING_NEW);
+    slc_written written;
+    size_t i;
+    same(tag, a.refused, 0);
+    same(plain, b.refused, 0);
+    same(tag, a.code == b.code && a.file_number == b.file_number && a.element_number == b.element_number && a.has_position == b.has_position
+         && a.has_sub_element == b.has_sub_element && a.sub_element == b.sub_element && a.bit == b.bit && a.element_count == b.element_count, 1);
+    same("the kept text", b.kept, strlen(plain));
+    same("a new entry", parsed_as(SLC_READING_NEW, tag), SLC_REFUSED_SEPARATOR);
+    same("a read of it", read_request_as(SLC_READING_NEW, tag, SLC_REQUEST_ROOM), SLC_REFUSED_SEPARATOR);
+    same("a write to it", write_request_as(SLC_READING_NEW, tag, SLC_RAW, 4, SLC_WRITE_ROOM), SLC_REFUSED_SEPARATOR);
+    /* 39 comes before 4, 5 and 6 */
+    same("a read to no memory", read_request_as(SLC_READING_NEW, tag, 0), SLC_REFUSED_SEPARATOR);
+    same("a write of no kind", write_request_as(SLC_READING_NEW, tag, 9, 4, SLC_WRITE_ROOM), SLC_REFUSED_SEPARATOR);
+    same("a write of text", write_request_as(SLC_READING_NEW, tag, SLC_LATIN1, 4, SLC_WRITE_ROOM), SLC_REFUSED_SEPARATOR);
+    same("a write of one byte to no memory", write_request_as(SLC_READING_NEW, tag, SLC_RAW, 1, 0), SLC_REFUSED_SEPARATOR);
+
+    memset(out, 0xEE, SLC_DOTTED_ROOM);
+    same("dotted with less memory", dotted(tag, SLC_DOTTED_ROOM - 1).refused, SLC_REFUSED_OUTPUT_ROOM);
+    for (i = 0; i < SLC_DOTTED_ROOM && out[i] == 0xEE; i++) {
+    }
+    same("its memory stays", i, SLC_DOTTED_ROOM);
+    written = dotted(tag, SLC_DOTTED_ROOM);
+    same("dotted", !written.refused && written.length == strlen(plain) && !memcmp(out, plain, written.length), 1);
+    for (i = written.length; i < SLC_DOTTED_ROOM && out[i] == 0xEE; i++) {
+    }
+    same("what is behind it stays", i, SLC_DOTTED_ROOM);
+}
+
+/* The tag has one answer in both readings, and a dotted text. */
+static void alike(const char *tag, const char *text)
+{
+    slc_address a = slc_parse_tag(bytes(tag), strlen(tag), SLC_READING_STORED), b = slc_parse_tag(bytes(tag), strlen(tag), SLC_READING_NEW);
+    slc_written written = dotted(tag, SLC_DOTTED_ROOM);
+    same(tag, a.refused || b.refused, 0);
+    same(tag, a.element_number == b.element_number && a.element_count == b.element_count && a.sub_element == b.sub_element && a.kept == b.kept, 1);
+    same("dotted", !written.refused && written.length == strlen(text) && !memcmp(out, text, written.length), 1);
+}
+
+static void refused_alike(const char *tag, uint8_t number)
+{
+    same(tag, parsed_as(SLC_READING_STORED, tag), number);
+    same(tag, parsed_as(SLC_READING_NEW, tag), number);
+    same("dotted", dotted(tag, SLC_DOTTED_ROOM).refused, number);
+    same("dotted to no memory", dotted(tag, 0).refused, number);
+}
+
+static void readings(void)
+{
+    unsigned n;
+    /* a digit, a letter, signs, and characters of two to four bytes */
+    retired("T4:123PRE", "T4:12.PRE"), retired("t4:12PRE", "t4:1.PRE"), retired("C5:255XDN", "C5:255.DN"), retired("T4:1:ACC", "T4:1.ACC");
+    retired("c005:007{ov", "c005:007.ov"), retired("T4:1\xC3\xA9PRE", "T4:1.PRE"), retired("T4:1\xE2\x82\xAC" "ACC", "T4:1.ACC");
+    retired("C5:1\xF0\x9F\x98\x80UN", "C5:1.UN");
+    alike("T4:12.PRE", "T4:12.PRE"), alike("T4:12/PRE", "T4:12.PRE"), alike("c5:0/dn", "c5:0.dn"), alike("N7:0{02}", "N7:0{02}");
+    alike("N7:0/3", "N7:0/3"), alike("B3/4095", "B3/4095"), alike("\xC4\xB1:3.300/5", "\xC4\xB1:3.300/5"), alike("ST9:0{2}", "ST9:0{2}");
+    refused_alike("", SLC_REFUSED_TAG), refused_alike("T4:1", SLC_REFUSED_TAG), refused_alike("T4:1PRE", SLC_REFUSED_TAG);
+    refused_alike("T4:1..PRE", SLC_REFUSED_TAG), refused_alike("T4:1\nPRE", SLC_REFUSED_TAG), refused_alike("T4:1\xE9PRE", SLC_REFUSED_TAG_BYTES);
+    /* every number but 1 is a new entry */
+    for (n = 0; n < 256; n++) {
+        uint8_t answer = n == SLC_READING_STORED ? 0 : SLC_REFUSED_SEPARATOR;
+        same("the reading of a number", parsed_as((uint8_t)n, "T4:123PRE"), answer);
+        same("that of a read", read_request_as((uint8_t)n, "T4:123PRE", SLC_REQUEST_ROOM), answer);
+        same("that of a write", write_request_as((uint8_t)n, "T4:123PRE", SLC_RAW, 4, SLC_WRITE_ROOM), answer);
+        same("a tag that is both", parsed_as((uint8_t)n, "T4:12.PRE"), 0);
+    }
+    /* so no answer tells SLC_READING_NEW from another such number */
+    same("SLC_READING_NEW", SLC_READING_NEW, 0);
 }
 
 /* ---- tags of UTF-8 */
@@ -182,9 +282,9 @@ static void refusals(void)
 static void spells(const char *tag, const char *plain, uint8_t code, uint16_t file, uint16_t element, uint16_t sub_element, size_t kept)
 {
     uint8_t expected[SLC_REQUEST_ROOM];
-    slc_address a = slc_parse_tag(bytes(tag), strlen(tag)), b = slc_parse_tag(bytes(plain), strlen(plain));
-    slc_request one = slc_read_request(bytes(tag), strlen(tag), slc_default_requestor(), 5, out, SLC_REQUEST_ROOM);
-    slc_request two = slc_read_request(bytes(plain), strlen(plain), slc_default_requestor(), 5, expected, sizeof expected);
+    slc_address a = slc_parse_tag(bytes(tag), strlen(tag), SLC_READING_STORED), b = slc_parse_tag(bytes(plain), strlen(plain), SLC_READING_NEW);
+    slc_request one = slc_read_request(bytes(tag), strlen(tag), SLC_READING_STORED, slc_default_requestor(), 5, out, SLC_REQUEST_ROOM);
+    slc_request two = slc_read_request(bytes(plain), strlen(plain), SLC_READING_NEW, slc_default_requestor(), 5, expected, sizeof expected);
     same(tag, a.refused, 0);
     same(tag, a.code == code && a.file_number == file && a.element_number == element && a.sub_element == sub_element, 1);
     same("how many bytes are kept", a.kept, kept);
@@ -259,6 +359,18 @@ static void lengths(void)
     same("its answer", fed.used == 47 && !memcmp(out, "4B0220672401070910091019710F000000A20201830000\n", 47), 1);
 }
 
+/* the lines of `tags` are new entries, also the last one */
+static void new_lines(void)
+{
+    const char *const odd = "T4:123PRE\n", *const plain = "T4:12/PRE\n";
+    slc_fed fed = slc_tags_feed(slc_line_empty(), bytes(odd), 10, out, 10 * SLC_TAG_ROOM);
+    same("an odd separator", fed.used == 11 && !memcmp(out, "refused 39\n", 11), 1);
+    fed = slc_tags_feed(slc_line_empty(), bytes(plain), 10, out, 10 * SLC_TAG_ROOM);
+    same("a slash", fed.used == 47 && !memcmp(out, "4B0220672401070910091019710F000000A20604860C00\n", 47), 1);
+    fed = slc_tags_feed(slc_line_empty(), bytes(odd), 9, out, 9 * SLC_TAG_ROOM);
+    same("an odd separator in the last line", slc_tags_finish(fed.line, out, SLC_TAG_ROOM) == 11 && !memcmp(out, "refused 39\n", 11), 1);
+}
+
 static void type(uint8_t code, const char *name)
 {
     slc_file_type t = slc_type_of_code(code);
@@ -293,9 +405,9 @@ static void write_and_read_back(void)
     const uint8_t masked[] = {0xFF, 0xFF, 0x17, 0x00};
     uint8_t message[SLC_WRITE_ROOM], text[SLC_TEXT_ROOM];
     slc_element element;
-    slc_request request = slc_write_request(bytes("N7:3"), 4, SLC_RAW, masked, sizeof masked, slc_default_requestor(), 1, message, sizeof message);
+    slc_request request = slc_write_request(bytes("N7:3"), 4, SLC_READING_NEW, SLC_RAW, masked, sizeof masked, slc_default_requestor(), 1, message, sizeof message);
     same("a write", ask(message, request.length), SLC_DATA_AT);
-    request = slc_read_request(bytes("N7:3"), 4, slc_default_requestor(), 2, message, sizeof message);
+    request = slc_read_request(bytes("N7:3"), 4, SLC_READING_NEW, slc_default_requestor(), 2, message, sizeof message);
     same("a read", ask(message, request.length), SLC_DATA_AT + 2);
     same("the word at SLC_DATA_AT", reply[SLC_DATA_AT] + 256u * reply[SLC_DATA_AT + 1], 0x17);
     element = slc_device_read(&device, 7, SLC_TYPE_N, 3, NULL, 0);
@@ -384,9 +496,11 @@ int main(void)
     rooms();
     most();
     refusals();
+    readings();
     letters_and_separators();
     ill_formed_tags();
     lengths();
+    new_lines();
     questions();
     types();
     devices();

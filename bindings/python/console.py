@@ -114,8 +114,8 @@ def shown_text(text):
     return hexadecimal(text.encode()) if text else "none"
 
 
-def shown_address(tag):
-    a = slc.parse_tag(tag)
+def shown_address(tag, **reading):
+    a = slc.parse_tag(tag, **reading)
     maybe = ["-" if n is None else n for n in (a.position, a.sub_element)]
     return " ".join(map(str, (f"{a.code:02X}", a.file_number, a.element_number, *maybe, int(a.bit), a.element_count, a.kept)))
 
@@ -234,7 +234,7 @@ class Sim:
         return hexadecimal(b"".join(parts))
 
 
-# ---- calls: the shapes of the fields, and what answers; `**room` goes to those that have an output
+# ---- calls: the shapes of the fields, and what answers; `**room` goes to those that have an output, the reading in `**named` to those that are told it
 
 ELEMENT = {b"int": [signed], b"float": [bits], b"text": [byte_string], b"words": [words], b"field": [byte_string, signed]}
 WRITE = {b"raw": [byte_string], b"bool": [flag], b"text": [byte_string]}
@@ -255,12 +255,13 @@ def calls(sim):
     def message(call):
         return lambda *values, **room: hexadecimal(call(*values, **room))
 
-    def write(tag, q, sequence, *value, **room):
-        return hexadecimal(slc.write_request(tag, write_value(*value), q, sequence, **room).message)
+    def write(tag, q, sequence, *value, **named):
+        return hexadecimal(slc.write_request(tag, write_value(*value), q, sequence, **named).message)
 
     return {
         "tag": ([byte_string], shown_address),
-        "read": ([byte_string, requester, word], lambda *v, **room: hexadecimal(slc.read_request(*v, **room).message)),
+        "dotted": ([byte_string], lambda tag, **room: hexadecimal(slc.dotted(tag, **room).encode())),
+        "read": ([byte_string, requester, word], lambda *v, **named: hexadecimal(slc.read_request(*v, **named).message)),
         "write": ([byte_string, requester, word, WRITE], write),
         "proc": ([requester, word], message(slc.processor_type_request)),
         "datalogreq": ([byte], message(slc.datalog_request)),
@@ -294,7 +295,9 @@ def calls(sim):
 
 
 # as PROTOCOL.md has it: `room` has no effect on `swap`
-WITH_OUTPUT = {"read", "write", "proc", "datalogreq", "dirsizereq", "dirreadreq", "dir", "status", "errtext", "dec", "get", "cmd"}
+WITH_OUTPUT = {"dotted", "read", "write", "proc", "datalogreq", "dirsizereq", "dirreadreq", "dir", "status", "errtext", "dec", "get", "cmd"}
+# those that `new` may stand before; without it they read a tag as from a stored list
+WITH_READING = {"tag", "read", "write"}
 
 
 def values_of(shapes, fields):
@@ -318,17 +321,23 @@ class Console:
     def __init__(self):
         self.calls = calls(Sim())
 
-    def asked(self, call, *fields, room=None):
+    def asked(self, call, *fields, room=None, new=False):
         name = call.decode("latin-1")
         if name == "room" and room is None:
             if len(fields) < 2:
                 raise Wrong("fields")
-            return self.asked(*fields[1:], room=unsigned(fields[0]))
-        if name not in self.calls:
+            return self.asked(*fields[1:], room=unsigned(fields[0]), new=new)
+        if name == "new" and not new:
+            if not fields:
+                raise Wrong("fields")
+            return self.asked(*fields, room=room, new=True)
+        if name not in self.calls or new and name not in WITH_READING:
             raise Wrong("call")
         shapes, answer = self.calls[name]
         # no call needs more room than this
         named = {"room": min(room, 70000)} if room is not None and name in WITH_OUTPUT else {}
+        if name in WITH_READING:
+            named["reading"] = slc.Reading.NEW if new else slc.Reading.STORED
         return answer(*values_of(shapes, list(fields)), **named)
 
     def answer(self, line):

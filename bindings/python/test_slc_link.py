@@ -51,7 +51,8 @@ class Refusing(unittest.TestCase):
 class Numbers(Refusing):
     def test_refusals_have_their_questions(self):
         self.assertEqual(str(Refused(26)), "refused 26: Is the offset at most 65,535? No.")
-        self.assertEqual(str(Refused(27)), "refused 27")
+        self.assertEqual(str(Refused(39)), "refused 39: Is a timer's or counter's separator in a new entry a full stop or a slash? No.")
+        self.assertEqual([str(Refused(n)) for n in (27, 38, 40)], ["refused 27", "refused 38", "refused 40"])
         self.assertEqual([str(Refused(n)) for n in (-1, 0, 256)], ["refused -1", "refused 0", "refused 256"])
         self.assertEqual(question_of(Refusal.UNSOUND), "Is the processor sound?")
         self.assertEqual(question_of(Refusal.TAG_BYTES), "Is the tag at most 255 bytes and well-formed UTF-8?")
@@ -61,7 +62,8 @@ class Numbers(Refusing):
     def test_numbers_that_c_cannot_hold_are_not_cut(self):
         for call in (lambda: type_of_code(256), lambda: type_of_code(-1), lambda: bit_name(Code.T, 2**64),
                      lambda: encode_element(Code.L, 2**63, bytes(4)), lambda: encode_element(Code.F, Float(2**32), bytes(4)),
-                     lambda: read_request("N7:0", sequence=65536), lambda: Processor([(2**32, Code.N, 1)]),
+                     lambda: read_request("N7:0", sequence=65536), lambda: parse_tag("N7:0", reading=256), lambda: parse_tag("N7:0", reading=-1),
+                     lambda: Processor([(2**32, Code.N, 1)]),
                      lambda: Processor().read(65536, Code.N, 0), lambda: Processor().set(7, Code.N, -1, 0)):
             self.assertRaises(OverflowError, call)
 
@@ -93,6 +95,7 @@ class Numbers(Refusing):
     def test_what_is_no_whole_number(self):
         for bad in (1.9, 1.0, "5", None, True, b"\1"):
             for call in (lambda: type_of_code(bad), lambda: bit_name(Code.T, bad), lambda: read_request("N7:0", sequence=bad),
+                         lambda: parse_tag("N7:0", reading=bad), lambda: read_request("N7:0", reading=bad), lambda: write_request("N7:0", b"12", reading=bad),
                          lambda: datalog_request(bad), lambda: file_directory_read_request(1, bad, 1), lambda: Processor([(bad, Code.N, 1)]),
                          lambda: Processor([(7, Code.N, bad)]), lambda: Processor().read(bad, Code.N, 0), lambda: Processor().set(7, Code.N, bad, 0),
                          lambda: encode_element(Code.N, Whole(bad), bytes(2)), lambda: encode_element(Code.F, Float(bad), bytes(4)),
@@ -194,7 +197,7 @@ class Elements(Refusing):
 
 class Requests(Refusing):
     def test_addresses(self):
-        self.assertEqual(parse_tag("T4:123PRE"), Address(Code.T, 4, 12, None, 1, True, 1, 9))
+        self.assertEqual(parse_tag("T4:123PRE", reading=Reading.STORED), Address(Code.T, 4, 12, None, 1, True, 1, 9))
         self.assertEqual(parse_tag("i:3.300/5{2}"), Address(Code.I, 1, 3, 300, 5, True, 2, 9))
         self.assertEqual(parse_tag("N7:0{" + 30 * "9" + "}").element_count, 2**64 - 1)
         self.refused(1, parse_tag, 256 * "N")
@@ -232,6 +235,68 @@ class Requests(Refusing):
         self.assertEqual(file_directory_read_request(3, 0, 80)[17:].hex(), "a150000300")
 
 
+class Readings(Refusing):
+    # tags that only a stored list may have, and their dotted texts: separators that are a digit, a letter, a sign, and of one to four bytes
+    RETIRED = (("T4:123PRE", "T4:12.PRE"), ("t4:12PRE", "t4:1.PRE"), ("T4:1:ACC", "T4:1.ACC"), ("C5:255{DN", "C5:255.DN"), ("C5:0\0CU", "C5:0.CU"),
+               ("c005:007 ov", "c005:007.ov"), ("T4:1XEN", "T4:1.EN"), ("T4:1\x7FTT", "T4:1.TT"), ("T4:1éPRE", "T4:1.PRE"), ("T4:1€ACC", "T4:1.ACC"),
+               ("C5:12\U0001F600UN", "C5:12.UN"), ("C5:1\U0010FFFFUA", "C5:1.UA"))
+    SAME = ("T4:12.PRE", "T4:12/PRE", "c5:0/dn", "C5:255.UA", "N7:0", "N7:0{2}", "F8:1/3", "B3/4095", "ı:3.300/5", "ſ:1/15", "ST9:0{2}")
+    REFUSED = (("", 2), ("X7:0", 2), ("T4:1", 2), ("T4:1PRE", 2), ("T4:1..PRE", 2), ("T4:1.é", 2), ("T4:1\nPRE", 2), ("T4:256éPRE", 2), ("R6:0.EN", 2),
+               (b"T4:1\xE9PRE", 1), (256 * "N", 1))
+
+    def test_a_new_entry_has_no_odd_separator(self):
+        for tag, plain in self.RETIRED:
+            stored = parse_tag(tag, reading=Reading.STORED)
+            self.assertEqual(parse_tag(plain), stored._replace(kept=len(plain)), tag)
+            self.assertEqual(read_request(tag, reading=Reading.STORED), (stored, read_request(plain).message), tag)
+            # a new entry by default, and by every number but 1
+            self.refused(39, parse_tag, tag)
+            for number in (Reading.NEW, 0, 2, 3, 128, 255):
+                self.refused(39, parse_tag, tag, reading=number)
+                # before 4, 5 and 6
+                self.refused(39, read_request, tag, room=0, reading=number)
+                for value in (Text("a"), b"1", b"1234"):
+                    self.refused(39, write_request, tag, value, room=0, reading=number)
+
+    def test_all_else_is_read_alike(self):
+        for tag in self.SAME:
+            for call in (parse_tag, read_request, lambda tag, **named: write_request(tag, b"1234", **named)):
+                self.assertEqual(call(tag), call(tag, reading=Reading.STORED), tag)
+        for tag, number in self.REFUSED:
+            for call in (parse_tag, read_request, lambda tag, **named: write_request(tag, b"1234", **named)):
+                self.refused(number, call, tag)
+                self.refused(number, call, tag, reading=Reading.STORED)
+        for reading in Reading:
+            self.refused(3, read_request, "N7:0/3{2}", reading=reading)
+            self.refused(5, read_request, "N7:0{128}", reading=reading)
+            self.refused(4, write_request, "T4:0.PRE", True, reading=reading)
+            self.refused(6, write_request, "T4:0.DN", True, room=283, reading=reading)
+        self.refused(4, write_request, "T4:123PRE", True, reading=Reading.STORED)
+
+    def test_the_reading_is_named(self):
+        # a stored list is never meant by the place of an argument
+        self.assertRaises(TypeError, parse_tag, "N7:0", Reading.STORED)
+        self.assertRaises(TypeError, read_request, "N7:0", None, 0, REQUEST_ROOM, Reading.STORED)
+        self.assertRaises(TypeError, write_request, "N7:0", b"1234", None, 0, WRITE_ROOM, Reading.STORED)
+        self.assertEqual([(r.name, r.value) for r in Reading], [("NEW", 0), ("STORED", 1)])
+
+    def test_dotted(self):
+        for tag, text in self.RETIRED + (("T4:12/PRE", "T4:12.PRE"), ("c5:0/dn", "c5:0.dn")):
+            for given in (tag, tag.encode(), memoryview(tag.encode())):
+                self.assertEqual(dotted(given), text, tag)
+            self.assertEqual(dotted(text), text)
+        for tag in self.SAME:
+            self.assertEqual(dotted(tag), tag.replace("/", ".") if tag[0] in "Tc" else tag)
+        longest = "N7:0{" + 249 * "0" + "}"
+        self.assertEqual((len(longest), dotted(longest)), (255, longest))
+        for tag, number in self.REFUSED:
+            self.refused(number, dotted, tag)
+            self.refused(number, dotted, tag, room=0)
+        for tag in ("T4:123PRE", "N7:0"):
+            self.refused(6, dotted, tag, room=254)
+            self.assertEqual(dotted(tag, room=256), dotted(tag))
+
+
 class TagsInUtf8(Refusing):
     # a tag, the same in ASCII, and the address
     SAME = (("ı:0", "I:0", Address(Code.I, 1, 0, 0, 0, False, 1, 4)),
@@ -247,26 +312,27 @@ class TagsInUtf8(Refusing):
 
     def test_addresses(self):
         for tag, plain, address in self.SAME:
-            self.assertEqual(parse_tag(tag), address, tag)
+            self.assertEqual(parse_tag(tag, reading=Reading.STORED), address, tag)
             self.assertEqual(parse_tag(plain)[:-1], address[:-1], plain)
 
     def test_reads(self):
         for tag, plain, address in self.SAME:
-            self.assertEqual(read_request(tag, sequence=5), (address, read_request(plain, sequence=5).message), tag)
-        self.assertEqual([read_request(tag).message[17:].hex() for tag in ("ı:0", "ſt9:0", "T4:1éPRE")], ["a20201830000", "a254098d0000", "a20604860100"])
+            self.assertEqual(read_request(tag, sequence=5, reading=Reading.STORED), (address, read_request(plain, sequence=5).message), tag)
+        self.assertEqual([read_request(tag, reading=Reading.STORED).message[17:].hex() for tag in ("ı:0", "ſt9:0", "T4:1éPRE")],
+                         ["a20201830000", "a254098d0000", "a20604860100"])
 
     def test_writes(self):
         # the tag is UTF-8, the text Latin-1
         self.assertEqual(write_request("ſt9:0", Text("é")).message[17:29].hex(), "ab54098d0000" "ffff" "0100" "00e9")
         self.assertEqual(write_request("ſt9:0", Text("é")).message, write_request("ST9:0", Text(b"\xE9")).message)
         self.assertEqual(write_request("ı:0/3", True).message, write_request("I:0/3", True).message)
-        self.assertEqual(write_request("T4:1éDN", False).message, write_request("T4:1.DN", False).message)
+        self.assertEqual(write_request("T4:1éDN", False, reading=Reading.STORED).message, write_request("T4:1.DN", False).message)
         self.refused(1, write_request, b"\xFD:0/3", True)
 
     def test_str_and_bytes(self):
         for tag, _, address in self.SAME:
             for given in (tag.encode(), bytearray(tag.encode()), memoryview(tag.encode())):
-                self.assertEqual(parse_tag(given), address, tag)
+                self.assertEqual(parse_tag(given, reading=Reading.STORED), address, tag)
         # in Latin-1, and in Latin-5, which is for Turkish
         self.refused(1, parse_tag, "T4:1éPRE".encode("latin-1"))
         self.refused(1, parse_tag, "ı:0".encode("iso8859-9"))
@@ -275,22 +341,27 @@ class TagsInUtf8(Refusing):
         for bad in map(bytes.fromhex, self.ILL_FORMED):
             # alone, as a separator, at the end
             for tag in (bad, b"T4:1" + bad + b"PRE", b"N7:0" + bad):
-                for call in (parse_tag, read_request, lambda tag: write_request(tag, b"12")):
+                for call in (parse_tag, read_request, lambda tag, **named: write_request(tag, b"12", **named)):
                     self.refused(1, call, tag)
+                    self.refused(1, call, tag, reading=Reading.STORED)
+                self.refused(1, dotted, tag)
 
     def test_a_lone_surrogate(self):
         # the last: the bytes of ı, read as surrogateescape reads bytes that it doesn't know
         for tag in ("\udc80", "T4:1\udc80PRE", "T4:1\ud800PRE", "T4:1\ud83d\ude00PRE", "\udcc4\udcb1:0"):
-            for call in (parse_tag, read_request, lambda tag: write_request(tag, b"12")):
+            for call in (parse_tag, read_request, dotted, lambda tag: write_request(tag, b"12")):
                 self.refused(1, call, tag)
 
     def test_separators(self):
         # the first and the last character of each length, and the neighbours of the surrogates
         for separator in ("\0", "\r", "\x7F", "\x80", "\u07FF", "\u0800", "\uD7FF", "\uE000", "\uFFFF", "\U00010000", "\U0010FFFF", "\u0085", "\u2028"):
-            self.assertEqual(parse_tag(f"T4:1{separator}PRE"), Address(Code.T, 4, 1, None, 1, True, 1, 7 + len(separator.encode())))
+            self.assertEqual(parse_tag(f"T4:1{separator}PRE", reading=Reading.STORED), Address(Code.T, 4, 1, None, 1, True, 1, 7 + len(separator.encode())))
+            self.refused(39, parse_tag, f"T4:1{separator}PRE")
+            self.assertEqual(dotted(f"T4:1{separator}PRE"), "T4:1.PRE")
         # a newline, none, two characters (é as e and an accent)
         for separator in ("\n", "", "éé", ".é", "e\u0301"):
             self.refused(2, parse_tag, f"T4:1{separator}PRE")
+            self.refused(2, parse_tag, f"T4:1{separator}PRE", reading=Reading.STORED)
 
     def test_what_is_no_file_letter_name_digit_or_sign(self):
         # a capital I with a dot; a ligature of s and t; a byte order mark; wide, Arabic and raised ones; a blank that doesn't break
@@ -518,7 +589,7 @@ class Copies(unittest.TestCase):
             pickle.dumps(Processor())
 
     def test_values_and_refusals_are_pickled(self):
-        for value in (Text("abc"), Field("EN", 1), Float(1), FileCode.N, parse_tag("N7:0"), type_of_code(Code.N), sys0_info("")):
+        for value in (Text("abc"), Field("EN", 1), Float(1), FileCode.N, Reading.STORED, parse_tag("N7:0"), type_of_code(Code.N), sys0_info("")):
             self.assertEqual(pickle.loads(pickle.dumps(value)), value)
         self.assertEqual(pickle.loads(pickle.dumps(Refused(3))).number, 3)
 
@@ -587,8 +658,10 @@ class TheCallsOfC(unittest.TestCase):
     def test_kinds_that_there_are_not(self):
         element = _c.output(2)
         self.assertEqual(_c.call("slc_encode_element", Code.N, _c.slc_value(9), b"", element), 20)
-        request = _c.call("slc_write_request", b"N7:0", 9, b"12", slc_link._requestor(None), 0, _c.output(WRITE_ROOM))
-        self.assertEqual(request.address.refused, 4)
+        # 39 comes before 4
+        for tag, reading, number in ((b"N7:0", 0, 4), (b"T4:123PRE", 1, 4), (b"T4:123PRE", 0, 39), (b"T4:123PRE", 2, 39)):
+            request = _c.call("slc_write_request", tag, reading, 9, b"12", slc_link._requestor(None), 0, _c.output(WRITE_ROOM))
+            self.assertEqual(request.address.refused, number, tag)
 
     def test_a_refused_call_changes_and_tells_nothing_else(self):
         before = bytes(range(256))
@@ -606,9 +679,14 @@ class TheCallsOfC(unittest.TestCase):
                 (6, "slc_reply_status", b"", text),
                 (25, "slc_reply_directory_size", W1[6:18], info),
                 (24, "slc_decode_element", Code.ST, bytes(84), text),
-                (2, "slc_parse_tag", b""),
-                (5, "slc_read_request", b"N7:0{128}", q, 0, memory),
-                (4, "slc_write_request", b"N7:0", _c.SLC_TRUE, b"", q, 0, memory),
+                (2, "slc_parse_tag", b"", 0),
+                (39, "slc_parse_tag", b"T4:123PRE", 0),
+                (2, "slc_dotted", b"T4:123", memory),
+                (6, "slc_dotted", b"T4:123PRE", lent(c_uint8, 254)),
+                (5, "slc_read_request", b"N7:0{128}", 0, q, 0, memory),
+                (39, "slc_read_request", b"T4:123PRE", 2, q, 0, memory),
+                (4, "slc_write_request", b"N7:0", 1, _c.SLC_TRUE, b"", q, 0, memory),
+                (39, "slc_write_request", b"T4:123PRE", 255, _c.SLC_RAW, b"1234", q, 0, memory),
                 (26, "slc_file_directory_read_request", 1, 65536, 1, q, 0, memory),
                 (25, "slc_parse_file_directory_size", b"", info),
                 (10, "slc_parse_file_directory", 0, 3, 2 * b"\x89\2\0", rows),
@@ -632,9 +710,9 @@ class TheProgramTags(unittest.TestCase):
             self.assertEqual(said, answers)
 
     def test_utf_8(self):
-        text = "ı:0\nT4:1éPRE\nN7:ı\nT4:1\U0001F600PRE\n"
+        text = "ı:0\nT4:1éPRE\nN7:ı\nT4:1\U0001F600PRE\nT4:1/PRE\n"
         timer = b"4B0220672401070910091019710F000000A20604860100\n"
-        answers = b"4B0220672401070910091019710F000000A20201830000\n" + timer + b"refused 2\n" + timer
+        answers = b"4B0220672401070910091019710F000000A20201830000\nrefused 39\nrefused 2\nrefused 39\n" + timer
         # cut between characters, and inside them
         for whole in (text, text.encode()):
             for size in range(1, len(whole) + 1):

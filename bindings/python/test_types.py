@@ -8,7 +8,10 @@ import slc_link as slc
 class Typed(unittest.TestCase):
     def test_answers(self) -> None:
         message: bytes = slc.read_request("N7:0", (b"\1\2", [3, 4, 5, 6]), sequence=1).message
-        self.assertEqual(slc.parse_tag("ı:0"), slc.parse_tag(memoryview(b"\xC4\xB1:0")))
+        self.assertEqual(slc.parse_tag("ı:0"), slc.parse_tag(memoryview(b"\xC4\xB1:0"), reading=slc.Reading.STORED))
+        plain: str = slc.dotted(b"T4:123PRE")
+        timer: slc.Request = slc.write_request(plain, b"1234", reading=slc.Reading.NEW)
+        self.assertEqual(timer.message, slc.write_request("T4:123PRE", b"1234", reading=1).message)
         processor = slc.Processor([(7, slc.FileCode.N, 10), slc.File(9, 0x8D, 1)], type_text=b"1747-L552", datalog=["A", b"B"])
         reply: bytes = processor.pccc(memoryview(message)[6:])
         self.assertEqual(len(reply), 13)

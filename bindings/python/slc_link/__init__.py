@@ -13,10 +13,11 @@ refuses raises Refused with the number of the question that was answered with no
     Traceback (most recent call last):
     slc_link.Refused: refused 3: Is the tag free of a bit together with a count above 1? No.
 
-A tag is UTF-8, as bytes or as str; a str with a lone surrogate, which UTF-8 can't have, is refused with 1. Names and texts are Latin-1, as bytes or
-as str. A number is an int, or what has __index__; it is never cut: 1.9, "5" and True raise TypeError, one that its parameter can't have OutOfRange,
-which is a ValueError and an OverflowError. `room` is the size of the output that a call is lent; each has a default that is enough. The library is the
-file SLC_LINK_SO, or target/sharedlib/libslc_link.so of this repository (built by `./slc lib python`).
+A tag is UTF-8, as bytes or as str; a str with a lone surrogate, which UTF-8 can't have, is refused with 1. It is read as a new entry, or by
+`reading=Reading.STORED` as one of a stored list. Names and texts are Latin-1, as bytes or as str. A number is an int, or what has __index__; it is
+never cut: 1.9, "5" and True raise TypeError, one that its parameter can't have OutOfRange, which is a ValueError and an OverflowError. `room` is the
+size of the output that a call is lent; each has a default that is enough. The library is the file SLC_LINK_SO, or
+target/sharedlib/libslc_link.so of this repository (built by `./slc lib python`).
 """
 import struct
 import threading
@@ -28,22 +29,23 @@ from typing import Any, Literal, NamedTuple, NoReturn, Optional, SupportsIndex, 
 from . import _c
 from ._c import OutOfRange
 
-__version__ = "0.2.0"
+__version__ = "0.3.0"
 __all__ = [
-    "REQUEST_ROOM", "WRITE_ROOM", "STATUS_ROOM", "REPLY_ROOM", "TEXT_ROOM", "TAG_ROOM", "MOST_FILES", "MOST_DATA", "COMMAND_AT", "DATA_AT",
+    "REQUEST_ROOM", "WRITE_ROOM", "STATUS_ROOM", "REPLY_ROOM", "TEXT_ROOM", "DOTTED_ROOM", "TAG_ROOM", "MOST_FILES", "MOST_DATA", "COMMAND_AT",
+    "DATA_AT",
     "Refusal", "Refused", "OutOfRange", "question_of",
     "FileCode", "FileType", "FieldPlace", "type_of_code", "type_of_name", "bit_name", "word_name", "field_of",
     "string_swap", "swap_pairs", "encode_ascii", "encode_string",
     "Whole", "Float", "Text", "Words", "Field", "Fields", "Value", "Element", "encode_element", "decode_element",
-    "Address", "Requestor", "Request", "parse_tag", "default_requestor", "read_request", "write_request", "processor_type_request",
-    "datalog_request",
+    "Reading", "Address", "Requestor", "Request", "parse_tag", "dotted", "default_requestor", "read_request", "write_request",
+    "processor_type_request", "datalog_request",
     "reply_status", "reply_datalog", "request_status", "error_text", "parse_datalog",
     "Sys0Info", "ListedFile", "sys0_info", "file_directory_size_request", "file_directory_read_request", "reply_directory_size", "parse_file_directory_size",
     "parse_file_directory",
     "File", "FileRecord", "Processor", "Tags",
 ]
 
-REQUEST_ROOM, WRITE_ROOM, STATUS_ROOM, REPLY_ROOM, TEXT_ROOM, TAG_ROOM = 27, 284, 96, 514, 82, 64
+REQUEST_ROOM, WRITE_ROOM, STATUS_ROOM, REPLY_ROOM, TEXT_ROOM, DOTTED_ROOM, TAG_ROOM = 27, 284, 96, 514, 82, 255, 64
 MOST_FILES, MOST_DATA = 256, 65535
 # a message's PCCC command begins here, and the data of a reply whose requester's id has the usual 7 bytes
 COMMAND_AT, DATA_AT = 6, 11
@@ -83,6 +85,7 @@ class Refusal(IntEnum):
     TEXT_ROOM = 24
     REPLY_LENGTH = 25
     OFFSET = 26
+    SEPARATOR = 39
 
 
 class Refused(Exception):
@@ -347,6 +350,13 @@ def decode_element(code: SupportsIndex, element: Latin1, room: SupportsIndex = T
 # ---- addresses and requests
 
 
+class Reading(IntEnum):
+    """How a tag is read. As a new entry a timer's or counter's tag has a full stop or a slash before the name, as one of a stored list any character but a
+    newline; else there is no difference. Any number but that of STORED is a new entry, which takes nothing that a stored list doesn't."""
+    NEW = _c.SLC_READING_NEW
+    STORED = _c.SLC_READING_STORED
+
+
 class Address(NamedTuple):
     """The address that a tag spells. `bit` is true where the tag names a bit, or a field of T or C; `kept` counts the bytes of the tag that are kept,
     not the characters: those before `{`, or all of C, of T, and of S with a bit."""
@@ -402,10 +412,27 @@ def _request(name: str, *values: Any, room: SupportsIndex) -> Request:
     return Request(_address(built.address), bytes(out[:built.length]))
 
 
-def parse_tag(tag: Tag) -> Address:
+def parse_tag(tag: Tag, *, reading: SupportsIndex = Reading.NEW) -> Address:
     """The address that a tag spells. Where a file letter is read, a dotless ı is an I and a long ſ an S; the separator of a timer or counter
-    address is one character that isn't a newline. Refused: 1, 2."""
-    return _address(_c.call("slc_parse_tag", _tag(tag)))
+    address is a full stop or a slash, in a stored list any character but a newline. Refused: 1, 2, 39.
+
+    >>> parse_tag("T4:123PRE", reading=Reading.STORED).element_number, parse_tag("T4:12.PRE").element_number
+    (12, 12)
+    >>> parse_tag("T4:123PRE")
+    Traceback (most recent call last):
+    slc_link.Refused: refused 39: Is a timer's or counter's separator in a new entry a full stop or a slash? No.
+    """
+    return _address(_c.call("slc_parse_tag", _tag(tag), reading))
+
+
+def dotted(tag: Tag, room: SupportsIndex = DOTTED_ROOM) -> str:
+    """The text of a tag of a stored list with a timer's or counter's separator replaced by a full stop; any other tag as it is, with its count. The
+    text is accepted as a new entry and names the same address; only `kept` may be less, where the separator had several bytes. Refused: 1, 2, 6.
+
+    >>> dotted("T4:123PRE"), dotted("N7:0{2}")
+    ('T4:12.PRE', 'N7:0{2}')
+    """
+    return _written("slc_dotted", _tag(tag), room=room).decode("utf-8")
 
 
 def default_requestor() -> Requestor:
@@ -414,21 +441,22 @@ def default_requestor() -> Requestor:
     return Requestor(bytes(q.vid), bytes(q.vsn))
 
 
-def read_request(tag: Tag, requestor: Optional[Vendor] = None, sequence: SupportsIndex = 0, room: SupportsIndex = REQUEST_ROOM) -> Request:
-    """The message that reads what a tag names. Refused: 1, 2, 3, 5, 6."""
-    return _request("slc_read_request", _tag(tag), _requestor(requestor), sequence, room=room)
+def read_request(tag: Tag, requestor: Optional[Vendor] = None, sequence: SupportsIndex = 0, room: SupportsIndex = REQUEST_ROOM, *,
+                 reading: SupportsIndex = Reading.NEW) -> Request:
+    """The message that reads what a tag names. Refused: 1, 2, 39, 3, 5, 6."""
+    return _request("slc_read_request", _tag(tag), reading, _requestor(requestor), sequence, room=room)
 
 
 def write_request(tag: Tag, value: Union[Bytes, bool, Text], requestor: Optional[Vendor] = None, sequence: SupportsIndex = 0,
-                  room: SupportsIndex = WRITE_ROOM) -> Request:
-    """The message that writes to what a tag names: bytes (mask and data, as they are), True, False, or a Text. Refused: 1 to 6."""
+                  room: SupportsIndex = WRITE_ROOM, *, reading: SupportsIndex = Reading.NEW) -> Request:
+    """The message that writes to what a tag names: bytes (mask and data, as they are), True, False, or a Text. Refused: 1, 2, 39, 3 to 6."""
     if isinstance(value, bool):
         kind, data = _c.SLC_TRUE if value else _c.SLC_FALSE, b""
     elif isinstance(value, Text):
         kind, data = _c.SLC_LATIN1, value.text
     else:
         kind, data = _c.SLC_RAW, bytes(memoryview(value))
-    return _request("slc_write_request", _tag(tag), kind, data, _requestor(requestor), sequence, room=room)
+    return _request("slc_write_request", _tag(tag), reading, kind, data, _requestor(requestor), sequence, room=room)
 
 
 def processor_type_request(requestor: Optional[Vendor] = None, sequence: SupportsIndex = 0, room: SupportsIndex = REQUEST_ROOM) -> bytes:
@@ -658,7 +686,7 @@ class Processor:
 
 class Tags:
     """The program `tags`: a read request in capital hexadecimal for each line of the input, or `refused` and the number, with the default requester
-    and sequence 0. The input, lines of tags, comes in pieces: bytes cut anyhow, also inside a character, or str."""
+    and sequence 0. The input, lines of tags that are read as new entries, comes in pieces: bytes cut anyhow, also inside a character, or str."""
 
     def __init__(self) -> None:
         self._line = _c.call("slc_line_empty")

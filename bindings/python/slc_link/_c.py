@@ -40,6 +40,9 @@ class slc_element(Structure):
                 ("word2", c_int16), ("status", c_uint16)]
 
 
+SLC_READING_NEW, SLC_READING_STORED = 0, 1
+
+
 class slc_address(Structure):
     _fields_ = [("refused", c_uint8), ("code", c_uint8), ("file_number", c_uint16), ("element_number", c_uint16), ("has_position", c_uint8),
                 ("position", c_uint16), ("has_sub_element", c_uint8), ("sub_element", c_uint16), ("bit", c_uint8),
@@ -124,10 +127,11 @@ CALLS: dict[str, tuple[Any, dict[str, Any]]] = {
     "slc_encode_string": (slc_written, dict(text=_IN, out=_OUT)),
     "slc_encode_element": (c_uint8, dict(code=c_uint8, value=slc_value, text=_IN, element=_OUT)),
     "slc_decode_element": (slc_element, dict(code=c_uint8, element=_IN, text=_OUT)),
-    "slc_parse_tag": (slc_address, dict(tag=_IN)),
+    "slc_parse_tag": (slc_address, dict(tag=_IN, reading=c_uint8)),
+    "slc_dotted": (slc_written, dict(tag=_IN, out=_OUT)),
     "slc_default_requestor": (slc_requestor, dict()),
-    "slc_read_request": (slc_request, dict(tag=_IN, q=slc_requestor, sequence=c_uint16, out=_OUT)),
-    "slc_write_request": (slc_request, dict(tag=_IN, kind=c_uint8, bytes=_IN, q=slc_requestor, sequence=c_uint16, out=_OUT)),
+    "slc_read_request": (slc_request, dict(tag=_IN, reading=c_uint8, q=slc_requestor, sequence=c_uint16, out=_OUT)),
+    "slc_write_request": (slc_request, dict(tag=_IN, reading=c_uint8, kind=c_uint8, bytes=_IN, q=slc_requestor, sequence=c_uint16, out=_OUT)),
     "slc_processor_type_request": (slc_written, dict(q=slc_requestor, sequence=c_uint16, out=_OUT)),
     "slc_datalog_request": (slc_written, dict(queue=c_uint8, out=_OUT)),
     "slc_request_status": (slc_written, dict(raw=_IN, out=_OUT)),

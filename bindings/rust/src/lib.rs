@@ -4,14 +4,15 @@
 //! Every call is a proved function of the library `libslc_link.a`; this package lends it slices and turns its answers into enums. A call that
 //! the library refuses is an [`Err`] with the question that was answered with no ([`Refused`]); it changes no lent byte. Output
 //! goes to slices that the caller lends, and what was written is handed back as a part of them. Nothing is allocated but by
-//! [`Processor::new`] and by cloning a [`Processor`]. A tag is UTF-8, as text or as bytes; names and all other texts are Latin-1 bytes.
+//! [`Processor::new`] and by cloning a [`Processor`]. A tag is UTF-8, as text or as bytes, and a call is told how it is read ([`Reading`]); names and
+//! all other texts are Latin-1 bytes.
 //!
 //! ```
-//! use slc_link::{read_request, FileType, Processor, Refused, Requestor, Spot, Value, COMMAND_AT, DATA_AT, REPLY_ROOM, REQUEST_ROOM};
+//! use slc_link::{read_request, FileType, Processor, Reading, Refused, Requestor, Spot, Value, COMMAND_AT, DATA_AT, REPLY_ROOM, REQUEST_ROOM};
 //!
 //! // the message that reads N7:0; its PCCC command begins behind the six bytes of service and path
 //! let mut out = [0; REQUEST_ROOM];
-//! let request = read_request("N7:0", Requestor::default(), 0x1234, &mut out)?;
+//! let request = read_request("N7:0", Reading::New, Requestor::default(), 0x1234, &mut out)?;
 //! assert_eq!(request.address.file_type, FileType::N);
 //! let command = &request.message[COMMAND_AT..];
 //!
@@ -23,7 +24,7 @@
 //! assert_eq!(reply[DATA_AT..], [15, 0]);
 //!
 //! // a bit can't be read with a count above 1
-//! let refused = read_request("N7:0/3{2}", Requestor::default(), 0, &mut out).unwrap_err();
+//! let refused = read_request("N7:0/3{2}", Reading::New, Requestor::default(), 0, &mut out).unwrap_err();
 //! assert_eq!(refused, Refused::BitCount);
 //! # Ok::<(), Refused>(())
 //! ```
@@ -50,7 +51,8 @@ pub use processor::{File, FileRecord, Processor, Spot};
 pub use refused::{Question, Refused, UnknownNumber};
 pub use reply::{error_text, parse_datalog, reply_datalog, reply_status, request_status};
 pub use request::{
-    datalog_request, parse_tag, processor_type_request, read_request, write_request, Address, Request, Requestor, WriteValue,
+    datalog_request, dotted, parse_tag, processor_type_request, read_request, write_request, Address, Reading, Request, Requestor,
+    WriteValue,
 };
 pub use tags::Tags;
 pub use text::{encode_ascii, encode_string, string_swap, swap_pairs};
@@ -65,6 +67,8 @@ pub const STATUS_ROOM: usize = 96;
 pub const REPLY_ROOM: usize = 514;
 /// Bytes that the memory of a text needs (question 24).
 pub const TEXT_ROOM: usize = 82;
+/// Bytes of output that [`dotted`] needs (question 6).
+pub const DOTTED_ROOM: usize = 255;
 /// Bytes of output that [`Tags`] needs for each byte of input.
 pub const TAG_ROOM: usize = 64;
 /// The place in a message where its PCCC command begins, behind CIP service and path.

@@ -43,6 +43,7 @@ pub enum Refused {
     TextRoom = 24,
     ReplyLength = 25,
     Offset = 26,
+    Separator = 39,
 }
 
 /// A number that no refusal has.
@@ -106,6 +107,7 @@ impl Refused {
             TextRoom,
             ReplyLength,
             Offset,
+            Separator,
         ]
     };
 

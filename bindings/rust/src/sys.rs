@@ -63,6 +63,9 @@ pub struct slc_element {
     pub status: u16,
 }
 
+pub const SLC_READING_NEW: u8 = 0;
+pub const SLC_READING_STORED: u8 = 1;
+
 #[repr(C)]
 #[derive(Clone, Copy, Debug)]
 pub struct slc_address {
@@ -201,12 +204,22 @@ extern "C" {
     pub fn slc_encode_string(text: *const u8, text_len: usize, out: *mut u8, out_len: usize) -> slc_written;
     pub fn slc_encode_element(code: u8, value: slc_value, text: *const u8, text_len: usize, element: *mut u8, element_len: usize) -> u8;
     pub fn slc_decode_element(code: u8, element: *const u8, element_len: usize, text: *mut u8, text_len: usize) -> slc_element;
-    pub fn slc_parse_tag(tag: *const u8, tag_len: usize) -> slc_address;
+    pub fn slc_parse_tag(tag: *const u8, tag_len: usize, reading: u8) -> slc_address;
+    pub fn slc_dotted(tag: *const u8, tag_len: usize, out: *mut u8, out_len: usize) -> slc_written;
     pub fn slc_default_requestor() -> slc_requestor;
-    pub fn slc_read_request(tag: *const u8, tag_len: usize, q: slc_requestor, sequence: u16, out: *mut u8, out_len: usize) -> slc_request;
+    pub fn slc_read_request(
+        tag: *const u8,
+        tag_len: usize,
+        reading: u8,
+        q: slc_requestor,
+        sequence: u16,
+        out: *mut u8,
+        out_len: usize,
+    ) -> slc_request;
     pub fn slc_write_request(
         tag: *const u8,
         tag_len: usize,
+        reading: u8,
         kind: u8,
         bytes: *const u8,
         bytes_len: usize,

@@ -1,12 +1,14 @@
 use crate::sys;
 
 /// The program `tags` on slices: a read request in capital hexadecimal for each line of the input, or `refused` and the number, with the
-/// default requester and sequence 0. The input, lines of tags, comes in pieces, cut anyhow, also inside a character.
+/// default requester and sequence 0. The input, lines of tags that are read as new entries ([`Reading::New`](crate::Reading::New)), comes in
+/// pieces, cut anyhow, also inside a character.
 ///
 /// ```
 /// let mut tags = slc_link::Tags::new();
 /// let mut out = [0; 64 * 10];
 /// assert_eq!(tags.feed(b"N7:0/3{2}\n", &mut out), (10, &b"refused 3\n"[..]));
+/// assert_eq!(tags.feed(b"T4:123PRE\n", &mut out), (10, &b"refused 39\n"[..]));
 /// assert_eq!(tags.feed(b"N7:0", &mut out), (4, &b""[..]));
 /// assert_eq!(tags.finish(&mut out), b"4B0220672401070910091019710F000000A20207890000\n");
 /// ```

@@ -4,14 +4,19 @@ fn requestor() -> Requestor {
     Requestor::default()
 }
 
+/// As from a stored list, which may have all that a new entry may be.
+fn parse(tag: impl AsRef<[u8]>) -> Result<Address, Refused> {
+    parse_tag(tag, Reading::Stored)
+}
+
 fn read(tag: &str) -> Result<Vec<u8>, Refused> {
     let mut out = [0; REQUEST_ROOM];
-    Ok(read_request(tag, requestor(), 0, &mut out)?.message.to_vec())
+    Ok(read_request(tag, Reading::Stored, requestor(), 0, &mut out)?.message.to_vec())
 }
 
 fn write(tag: &str, value: WriteValue) -> Result<Vec<u8>, Refused> {
     let mut out = [0; WRITE_ROOM];
-    Ok(write_request(tag, value, requestor(), 0, &mut out)?.message.to_vec())
+    Ok(write_request(tag, Reading::Stored, value, requestor(), 0, &mut out)?.message.to_vec())
 }
 
 /// A command from the function byte on, behind the default requester's id, 0F 00 and sequence 0.
@@ -42,9 +47,9 @@ const BAD: [u8; 12] = [7, 9, 0x10, 9, 0x10, 0x19, 0x71, 0x4F, 0xF0, 0, 0, 6];
 #[test]
 fn refusals_have_numbers_and_questions() {
     let numbers: Vec<u8> = Refused::ALL.iter().map(|r| r.number()).collect();
-    assert_eq!(numbers, Vec::from_iter(1..=26));
+    assert_eq!(numbers, Vec::from_iter((1..=26).chain([39])));
     assert!(Refused::ALL.iter().all(|&r| Refused::try_from(r.number()) == Ok(r)));
-    assert_eq!([0, 27, 255].map(Refused::try_from), [0, 27, 255].map(|n| Err(UnknownNumber(n))));
+    assert_eq!([0, 27, 38, 40, 255].map(Refused::try_from), [0, 27, 38, 40, 255].map(|n| Err(UnknownNumber(n))));
     assert_eq!(UnknownNumber(27).to_string(), "no refusal has the number 27");
     assert_eq!(Refused::Unsound.question().as_str(), "Is the processor sound?");
     assert_eq!(Refused::TagBytes.question().as_str(), "Is the tag at most 255 bytes and well-formed UTF-8?");
@@ -54,6 +59,10 @@ fn refusals_have_numbers_and_questions() {
         "\"Is the number in range?\" Is the row size not 0?"
     );
     assert_eq!(Refused::Offset.to_string(), "refused 26: Is the offset at most 65,535? No.");
+    assert_eq!(
+        Refused::Separator.to_string(),
+        "refused 39: Is a timer's or counter's separator in a new entry a full stop or a slash? No."
+    );
 }
 
 #[test]
@@ -174,27 +183,110 @@ fn a_clone_is_independent_and_threads_may_have_it() {
 #[test]
 fn w1_to_w6() {
     let mut out = [0xEE; 30];
-    let w1 = read_request(b"N7:0", requestor(), 0x1234, &mut out).unwrap();
+    let w1 = read_request(b"N7:0", Reading::New, requestor(), 0x1234, &mut out).unwrap();
     assert_eq!(w1.message, W1);
-    assert_eq!(w1.address, parse_tag(b"n7:0").unwrap());
+    assert_eq!(w1.address, parse(b"n7:0").unwrap());
     assert_eq!(out[23..], [0xEE; 7]);
 
-    let w2 = parse_tag(b"T4:123PRE").unwrap();
+    let w2 = parse(b"T4:123PRE").unwrap();
     assert_eq!((w2.file_type, w2.file_number, w2.element_number, w2.sub_element, w2.bit), (FileType::T, 4, 12, Some(1), true));
     assert_eq!((w2.position, w2.element_count, w2.kept), (None, 1, 9));
     assert_eq!(read("I99:3.300/5").unwrap()[18..], [2, 1, 0x83, 3, 0xFF, 0x2C, 1]);
     assert_eq!(read("B3/4095").unwrap()[19..], [3, 0x85, 0xFF, 0xFF, 0, 0]);
     assert_eq!((read("N7:0{0}").unwrap()[18], read("N7:0{127}").unwrap()[18]), (0, 254));
-    assert_eq!(parse_tag(b"N7:0{99999999999999999999}").unwrap().element_count, u64::MAX);
+    assert_eq!(parse(b"N7:0{99999999999999999999}").unwrap().element_count, u64::MAX);
     let refused =
         ["N7:0{128}", "ST9:0{3}", "N7:0/3{2}", "", "X7:0", &"N".repeat(256), "N7:\u{e9}"].map(|tag| read(tag).unwrap_err().number());
     assert_eq!(refused, [5, 2, 3, 2, 2, 1, 2]);
-    assert_eq!(read_request(b"N7:0", requestor(), 0, &mut out[..26]), Err(Refused::OutputRoom));
+    assert_eq!(read_request(b"N7:0", Reading::New, requestor(), 0, &mut out[..26]), Err(Refused::OutputRoom));
+}
+
+/// Tags that only a stored list may have, and their dotted texts: separators that are a digit, a letter, a sign, and of one to four bytes.
+const RETIRED: [(&str, &str); 12] = [
+    ("T4:123PRE", "T4:12.PRE"),
+    ("t4:12PRE", "t4:1.PRE"),
+    ("T4:1:ACC", "T4:1.ACC"),
+    ("C5:255{DN", "C5:255.DN"),
+    ("C5:0\0CU", "C5:0.CU"),
+    ("c005:007 ov", "c005:007.ov"),
+    ("T4:1XEN", "T4:1.EN"),
+    ("T4:1\u{7F}TT", "T4:1.TT"),
+    ("T4:1éPRE", "T4:1.PRE"),
+    ("T4:1€ACC", "T4:1.ACC"),
+    ("C5:12\u{1F600}UN", "C5:12.UN"),
+    ("C5:1\u{10FFFF}UA", "C5:1.UA"),
+];
+
+#[test]
+fn a_new_entry_has_no_odd_separator() {
+    for (tag, plain) in RETIRED {
+        let stored = parse(tag).unwrap();
+        assert_eq!(parse_tag(tag, Reading::New), Err(Refused::Separator), "{tag}");
+        // 39 comes before 4, 5 and 6
+        assert_eq!(read_request(tag, Reading::New, requestor(), 0, &mut []), Err(Refused::Separator), "{tag}");
+        for value in [WriteValue::Text(b"a"), WriteValue::Raw(b"1"), WriteValue::Raw(b"1234")] {
+            assert_eq!(write_request(tag, Reading::New, value, requestor(), 0, &mut []), Err(Refused::Separator), "{tag}");
+        }
+        assert_eq!(parse_tag(plain, Reading::New), Ok(Address { kept: plain.len(), ..stored }), "{tag}");
+        assert_eq!((read(tag).is_ok(), read(tag)), (true, read(plain)), "{tag}");
+    }
+}
+
+#[test]
+fn all_else_is_read_alike() {
+    let accepted = ["T4:12.PRE", "T4:12/PRE", "c5:0/dn", "C5:255.UA", "N7:0", "F8:1/3", "B3/4095", "ı:3.300/5", "ſ:1/15", "ST9:0{2}"];
+    let refused =
+        ["", "X7:0", "T4:1", "T4:1PRE", "T4:1..PRE", "T4:1.é", "T4:1\nPRE", "R6:0.EN", "N7:0/3{2}", "N7:0{128}", &"N".repeat(256)];
+    for (tag, good) in accepted.map(|tag| (tag, true)).into_iter().chain(refused.map(|tag| (tag, false))) {
+        let mut out = [0; REQUEST_ROOM];
+        let new = read_request(tag, Reading::New, requestor(), 0, &mut out).map(|r| r.message.to_vec());
+        assert_eq!((new.is_ok(), new), (good, read(tag)), "{tag}");
+        assert_eq!(parse_tag(tag, Reading::New), parse(tag), "{tag}");
+        let mut out = [0; WRITE_ROOM];
+        let new = write_request(tag, Reading::New, WriteValue::Raw(b"1234"), requestor(), 0, &mut out).map(|r| r.message.to_vec());
+        assert_eq!(new, write(tag, WriteValue::Raw(b"1234")), "{tag}");
+    }
+    // 1 and 2 come before 39
+    assert_eq!(parse_tag(b"T4:123\xFFPRE", Reading::New), Err(Refused::TagBytes));
+    assert_eq!(parse_tag("T4:123\u{E9}PRE", Reading::New), Err(Refused::Separator));
+    assert_eq!(parse_tag("T4:256\u{E9}PRE", Reading::New), Err(Refused::Tag));
+}
+
+#[test]
+fn dotted_texts() {
+    let plain = ["T4:12.PRE", "N7:0", "N7:0{02}", "ı:3.300/5{2}", "B3/4095"].map(|tag| (tag, tag));
+    for (tag, text) in RETIRED.into_iter().chain([("T4:12/PRE", "T4:12.PRE"), ("c5:0/dn", "c5:0.dn")]).chain(plain) {
+        let mut out = [0xEE; DOTTED_ROOM + 5];
+        assert_eq!(dotted(tag, &mut out), Ok(text), "{tag}");
+        assert!(out[text.len()..].iter().all(|&b| b == 0xEE), "{tag}");
+        assert_eq!(parse_tag(text, Reading::New).map(|a| a.element_number), parse(tag).map(|a| a.element_number), "{tag}");
+    }
+    let longest = format!("N7:0{{{}}}", "0".repeat(249));
+    assert_eq!((longest.len(), dotted(&longest, &mut [0; DOTTED_ROOM])), (255, Ok(&longest[..])));
+
+    let mut out = [0xEE; DOTTED_ROOM - 1];
+    for (tag, refused) in [("T4:123PRE", Refused::OutputRoom), ("N7:0", Refused::OutputRoom), ("T4:123", Refused::Tag), ("", Refused::Tag)]
+    {
+        assert_eq!((dotted(tag, &mut []), dotted(tag, &mut out)), (Err(refused), Err(refused)), "{tag}");
+        assert_eq!(out, [0xEE; DOTTED_ROOM - 1], "{tag}");
+    }
+    for tag in [b"T4:1\xE9PRE".to_vec(), vec![b'N'; 256]] {
+        assert_eq!(dotted(tag, &mut out), Err(Refused::TagBytes));
+        assert_eq!(out, [0xEE; DOTTED_ROOM - 1]);
+    }
+
+    // the text borrows the output alone, and is a tag again
+    let mut out = [0; DOTTED_ROOM];
+    let text = {
+        let tag = String::from("T4:1éPRE");
+        dotted(&tag, &mut out).unwrap()
+    };
+    assert_eq!(dotted(text, &mut [0; DOTTED_ROOM]), Ok("T4:1.PRE"));
 }
 
 /// The address that a tag spells, with the length of what is kept apart.
 fn spelled(tag: &str) -> (Address, usize) {
-    let address = parse_tag(tag).unwrap();
+    let address = parse(tag).unwrap();
     (Address { kept: 0, ..address }, address.kept)
 }
 
@@ -229,12 +321,12 @@ fn letters_and_separators_past_ascii() {
     }
     // a newline, none, two characters (é as e and an accent)
     for separator in ["\n", "", "éé", ".é", "e\u{301}"] {
-        assert_eq!(parse_tag(format!("T4:1{separator}PRE")), Err(Refused::Tag));
+        assert_eq!(parse(format!("T4:1{separator}PRE")), Err(Refused::Tag));
     }
     // a capital I with a dot; a ligature of s and t; a byte order mark; a wide letter and sign; an Arabic digit
     let others = ["\u{130}:0", "\u{FB06}9:0", "\u{FEFF}N7:0", "\u{FF2E}7:0", "N7\u{FF1A}0", "N\u{667}:0"];
     for tag in ["N7:ı", "Nı:0", "N7:é", "T4:1.PRÉ", "sſ:0", "ı"].into_iter().chain(others) {
-        assert_eq!(parse_tag(tag), Err(Refused::Tag), "{tag}");
+        assert_eq!(parse(tag), Err(Refused::Tag), "{tag}");
     }
 }
 
@@ -248,41 +340,45 @@ fn tags_that_are_not_well_formed() {
         assert!(std::str::from_utf8(bad).is_err());
         // alone, as a separator, at the end
         for tag in [bad.to_vec(), [b"T4:1", bad, b"PRE"].concat(), [b"N7:0", bad].concat()] {
-            assert_eq!(parse_tag(&tag), Err(Refused::TagBytes), "{tag:02X?}");
-            assert_eq!(read_request(&tag, requestor(), 0, &mut [0; REQUEST_ROOM]), Err(Refused::TagBytes));
-            assert_eq!(write_request(&tag, WriteValue::Raw(&[1, 2]), requestor(), 0, &mut [0; WRITE_ROOM]), Err(Refused::TagBytes));
+            for reading in [Reading::New, Reading::Stored] {
+                assert_eq!(parse_tag(&tag, reading), Err(Refused::TagBytes), "{tag:02X?}");
+                assert_eq!(read_request(&tag, reading, requestor(), 0, &mut [0; REQUEST_ROOM]), Err(Refused::TagBytes));
+                let raw = WriteValue::Raw(&[1, 2]);
+                assert_eq!(write_request(&tag, reading, raw, requestor(), 0, &mut [0; WRITE_ROOM]), Err(Refused::TagBytes));
+            }
+            assert_eq!(dotted(&tag, &mut [0; DOTTED_ROOM]), Err(Refused::TagBytes));
         }
     }
     // bytes count, not characters
     let counted = |zeros| format!("ı:0{{{}1}}", "0".repeat(zeros));
     assert_eq!((counted(248).len(), counted(249).chars().count()), (255, 255));
     assert_eq!(spelled(&counted(248)), (spelled("I:0").0, 4));
-    assert_eq!(parse_tag(counted(249)), Err(Refused::TagBytes));
+    assert_eq!(parse(counted(249)), Err(Refused::TagBytes));
     // 255 bytes that end with a character, and inside one
     let ended = ["N".repeat(253).as_bytes(), "é".as_bytes()].concat();
-    assert_eq!(parse_tag(&ended), Err(Refused::Tag));
-    assert_eq!(parse_tag(["N".as_bytes(), &ended[..254]].concat()), Err(Refused::TagBytes));
+    assert_eq!(parse(&ended), Err(Refused::Tag));
+    assert_eq!(parse(["N".as_bytes(), &ended[..254]].concat()), Err(Refused::TagBytes));
 }
 
 #[test]
 fn a_tag_is_text_or_bytes() {
     let (text, bytes) = (String::from("T4:1éPRE"), "T4:1éPRE".as_bytes().to_vec());
-    let address = parse_tag("T4:1éPRE").unwrap();
-    assert_eq!([parse_tag(&text), parse_tag(&bytes), parse_tag(&bytes[..]), parse_tag(b"T4:1\xC3\xA9PRE")], [Ok(address); 4]);
-    assert_eq!(parse_tag(text.chars().map(|c| c as u8).collect::<Vec<u8>>()), Err(Refused::TagBytes));
+    let address = parse("T4:1éPRE").unwrap();
+    assert_eq!([parse(&text), parse(&bytes), parse(&bytes[..]), parse(b"T4:1\xC3\xA9PRE")], [Ok(address); 4]);
+    assert_eq!(parse(text.chars().map(|c| c as u8).collect::<Vec<u8>>()), Err(Refused::TagBytes));
 
     // a request borrows the output alone; its text is Latin-1
     let mut out = [0; WRITE_ROOM];
     let built = {
         let tag = String::from("ſt9:0");
-        write_request(&tag, WriteValue::Text(b"\xE9"), requestor(), 0, &mut out).unwrap()
+        write_request(&tag, Reading::New, WriteValue::Text(b"\xE9"), requestor(), 0, &mut out).unwrap()
     };
     assert_eq!(built.message[17..29], [0xAB, 84, 9, 0x8D, 0, 0, 0xFF, 0xFF, 1, 0, 0, 0xE9]);
     assert_eq!(built.message, write("ST9:0", WriteValue::Text(b"\xE9")).unwrap());
     let mut out = [0; REQUEST_ROOM];
     let built = {
         let tag = "ſt9:0".as_bytes().to_vec();
-        read_request(&tag, requestor(), 0, &mut out).unwrap()
+        read_request(&tag, Reading::New, requestor(), 0, &mut out).unwrap()
     };
     assert_eq!(built.message[17..], [0xA2, 84, 9, 0x8D, 0, 0]);
 }
@@ -298,7 +394,7 @@ fn w7_and_w8() {
     assert_eq!(write("T4:0.PRE", WriteValue::Bool(true)), Err(Refused::Value));
     assert_eq!(write("N7:0", WriteValue::Raw(&[1])), Err(Refused::Size));
     assert_eq!(write("N7:0/3{2}", WriteValue::Raw(&[1, 2])), Err(Refused::BitCount));
-    assert_eq!(write_request(b"N7:0/3", WriteValue::Bool(true), requestor(), 0, &mut [0; 283]), Err(Refused::OutputRoom));
+    assert_eq!(write_request(b"N7:0/3", Reading::New, WriteValue::Bool(true), requestor(), 0, &mut [0; 283]), Err(Refused::OutputRoom));
 }
 
 #[test]
@@ -509,7 +605,7 @@ fn elements_of_a_processor() {
 
 #[test]
 fn tags_cut_anyhow() {
-    let input = "N7:0\nN7:0/3{2}\n\nT4:0.PRE\r\nı:0\nT4:1éPRE\nN7:ı\nB3/4095".as_bytes();
+    let input = "N7:0\nN7:0/3{2}\n\nT4:0.PRE\r\nı:0\nT4:1éPRE\nT4:1/PRE\nN7:ı\nB3/4095".as_bytes();
     let whole = |size: usize| {
         let (mut tags, mut out, mut at, mut answers) = (Tags::new(), [0; 5 * TAG_ROOM], 0, Vec::new());
         while at < input.len() {
@@ -521,7 +617,7 @@ fn tags_cut_anyhow() {
         String::from_utf8(answers).unwrap()
     };
     let expected = "4B0220672401070910091019710F000000A20207890000\nrefused 3\nrefused 2\nrefused 2\n\
-                    4B0220672401070910091019710F000000A20201830000\n4B0220672401070910091019710F000000A20604860100\nrefused 2\n\
+                    4B0220672401070910091019710F000000A20201830000\nrefused 39\n4B0220672401070910091019710F000000A20604860100\nrefused 2\n\
                     4B0220672401070910091019710F000000A2020385FFFF0000\n";
     for size in 1..=input.len() {
         assert_eq!(whole(size), expected, "in pieces of {size}");

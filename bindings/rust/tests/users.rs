@@ -8,7 +8,7 @@ const ARCHIVE: &str = env!("SLC_LINK_ARCHIVE");
 
 // a wildcard behind all cases is an error here where an enum is not #[non_exhaustive]
 const PROGRAM: &str = r#"#![deny(unreachable_patterns)]
-use slc_link::{read_request, Element, Refused, Requestor, Value, WriteValue, REQUEST_ROOM};
+use slc_link::{read_request, Element, Reading, Refused, Requestor, Value, WriteValue, REQUEST_ROOM};
 
 pub fn value(v: Value) -> bool {
     match v {
@@ -38,12 +38,20 @@ pub fn refused(r: Refused) -> bool {
     }
 }
 
-fn refuses(tag: impl AsRef<[u8]>) -> bool {
-    read_request(tag, Requestor::default(), 0, &mut [0; REQUEST_ROOM]) == Err(Refused::BitCount)
+// there are two, so that a match on both needs no wildcard
+pub fn stored(reading: Reading) -> bool {
+    match reading {
+        Reading::New => false,
+        Reading::Stored => true,
+    }
+}
+
+fn refuses(tag: impl AsRef<[u8]>, reading: Reading) -> bool {
+    read_request(tag, reading, Requestor::default(), 0, &mut [0; REQUEST_ROOM]) == Err(Refused::BitCount)
 }
 
 fn main() {
-    println!("{:?}", refuses("N7:0/3{2}") && refuses(b"N7:0/3{2}"));
+    println!("{:?}", refuses("N7:0/3{2}", Reading::New) && refuses(b"N7:0/3{2}", Reading::Stored));
 }
 "#;
 

@@ -1,8 +1,11 @@
 // The forms of an address, each read from the whole tag.
 ghost use mathlib.Core.Path.{_≡_};
+ghost use mathlib.Core.Bool.{true, false};
+ghost use lib.ListN.{drop};
 ghost use Rattle.parser_spec.specs.Characters.{utf8};
+ghost use Rattle.parser_spec.specs.Parts.{whole};
 ghost use Rattle.address_spec.specs.ReaderAnswers.{foundOf};
-ghost use Rattle.address_spec.specs.Spelling.{separates, ct, lfbn, io, sta, keptOf, status, bits, lastForms, formOf};
+ghost use Rattle.address_spec.specs.Spelling.{separates, ct, lfbn, io, behindStA, sta, keptOf, status, bits, lastForms, formOf};
 use address_spec::Address;
 use address_spec::Found;
 use address_spec::Maybe;
@@ -111,14 +114,10 @@ fn parse_io(tag: &[u8]) -> Found
     )
 }
 
-// ST, or A: file, `:`, element, count.
-fn parse_st_a(tag: &[u8], st: bool) -> Found
-    ensures { λ r. ⌜ r ≡ foundOf (sta utf8 st (now (tag .entry))) ⌝ }
+// ST or A behind its letters: file, `:`, element, count.
+fn behind_st_a(c1: Cur, tag: &[u8], t: FileType, st: bool) -> Found
+    ensures { λ r. ⌜ r ≡ foundOf (whole (behindStA st (now (tag .entry)) t) (drop (c1 .i) (now (tag .entry)))) ⌝ }
 {
-    let start = Cur { i: 0 };
-    let Typed::Is(file_type, c1) = address_phrases::st_or_a(start, tag, st) else {
-        return Found::No;
-    };
     let ReadWord::Got(file, c2) = address_phrases::file_then(c1, tag, b':') else {
         return Found::No;
     };
@@ -132,7 +131,7 @@ fn parse_st_a(tag: &[u8], st: bool) -> Found
         c4,
         tag,
         Address {
-            file_type: file_type,
+            file_type: t,
             file_number: file,
             element_number: element,
             pos_number: Maybe::Missing,
@@ -142,6 +141,28 @@ fn parse_st_a(tag: &[u8], st: bool) -> Found
             kept: parser::find(tag, b'{'),
         },
     )
+}
+
+// ST.
+fn parse_st(tag: &[u8]) -> Found
+    ensures { λ r. ⌜ r ≡ foundOf (sta utf8 true (now (tag .entry))) ⌝ }
+{
+    let start = Cur { i: 0 };
+    let Typed::Is(file_type, c1) = address_phrases::st_or_a(start, tag, true) else {
+        return Found::No;
+    };
+    behind_st_a(c1, tag, file_type, true)
+}
+
+// A.
+fn parse_a(tag: &[u8]) -> Found
+    ensures { λ r. ⌜ r ≡ foundOf (sta utf8 false (now (tag .entry))) ⌝ }
+{
+    let start = Cur { i: 0 };
+    let Typed::Is(file_type, c1) = address_phrases::st_or_a(start, tag, false) else {
+        return Found::No;
+    };
+    behind_st_a(c1, tag, file_type, false)
 }
 
 // The length of the kept text of an S address.
@@ -224,11 +245,11 @@ fn parse_b(tag: &[u8]) -> Found
 fn parse_last(tag: &[u8]) -> Found
     ensures { λ r. ⌜ r ≡ foundOf (lastForms utf8 (now (tag .entry))) ⌝ }
 {
-    let r1 = parse_st_a(tag, true);
+    let r1 = parse_st(tag);
     if let Found::Is(_) = r1 {
         return r1;
     }
-    let r2 = parse_st_a(tag, false);
+    let r2 = parse_a(tag);
     if let Found::Is(_) = r2 {
         return r2;
     }

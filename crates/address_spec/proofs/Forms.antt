@@ -43,6 +43,10 @@ module _ (p : Part Address) (s : List ℕ) where
   unfolding whole
   finish a q r g e = rw e g
 
+  pub go-on : (q : Part Address) (u : List ℕ) (r : Found) → r ≡ foundOf (whole q u) → p s ≡ q u → r ≡ foundOf (whole p s)
+  unfolding whole
+  go-on q u r g e = rw e g
+
 -- numbers that calls gave
 module _ (t : FileType) (f e n : ℕ) (p : Maybe) (u v : Bool) (k l : ℕ) (q : List ℕ) where
   abbrev Same : Maybe → Maybe → Type 0

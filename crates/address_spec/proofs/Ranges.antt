@@ -127,15 +127,15 @@ module _ (alphabet : Alphabet) (tag : List ℕ) (x : Address) where
       that (filed-yes B f (y / 16) n (u .0) (u .1) (omega (arith, v .1)))) (whole-some _ tag x k)
 
 -- ---- the forms in turn
-or-can : (y z : Option Address) {x : Address} → (y ≡ some x → CanSpell x) → (z ≡ some x → CanSpell x) → orTry y z ≡ some x → CanSpell x
+pub one-of : {X : Type 0} (y z : Option Address) {x : Address} → (y ≡ some x → X) → (z ≡ some x → X) → orTry y z ≡ some x → X
 unfolding orTry
-or-can none z f g e = g e
-or-can (some v) z f g e = f e
+one-of none z f g e = g e
+one-of (some v) z f g e = f e
 
 pub form-can : (alphabet : Alphabet) (separator : ℕ → Bool) (tag : List ℕ) (x : Address) → formOf alphabet separator tag ≡ some x → CanSpell x
 unfolding formOf lastForms
 form-can alphabet separator tag x =
-    or-can _ _ (ct-can alphabet tag x separator) (or-can _ _ (lfbn-can alphabet tag x) (or-can _ _ (io-can alphabet tag x) (or-can _ _ (st-can alphabet tag x) (or-can _ _ (a-can alphabet tag x) (or-can _ _ (s-can alphabet tag x) (b-can alphabet tag x))))))
+    one-of _ _ (ct-can alphabet tag x separator) (one-of _ _ (lfbn-can alphabet tag x) (one-of _ _ (io-can alphabet tag x) (one-of _ _ (st-can alphabet tag x) (one-of _ _ (a-can alphabet tag x) (one-of _ _ (s-can alphabet tag x) (b-can alphabet tag x))))))
 
 pub refused : {X : Type 0} {n : ℕ} {y : Address} → parsed.Refused n ≡ parsed.Is y → X
 refused e = absurd (let w : _≡_ {A = ℕ} 0 1 = cc in omega arith)

@@ -98,7 +98,7 @@ module _ (tag : List ℕ) (e : ascii tag ≡ true) where
       ap₂ orTry (ct-alike separator tag e) (ap₂ orTry lfbn-alike (ap₂ orTry io-alike (ap₂ orTry (sta-alike true) (ap₂ orTry (sta-alike false) (ap₂ orTry status-alike bits-alike)))))
 
 -- ---- questions 1 and 2
-small-formed : (s : List ℕ) → ascii s ≡ true → wellFormed s ≡ true
+pub small-formed : (s : List ℕ) → ascii s ≡ true → wellFormed s ≡ true
 unfolding ascii wellFormed characters atEnd
 small-formed [] e = refl
 small-formed (b ∷ s) e =

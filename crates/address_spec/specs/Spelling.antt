@@ -125,6 +125,14 @@ unfoldable pub orTry : Option Address → Option Address → Option Address
 orTry none q = q
 orTry (some x) q = some x
 
+-- "ST, A: file, `:`, element (4 digits at most), count."; "ST takes only {1} or {2}"
+abbrev pub behindStA : Bool → List ℕ → FileType → Part Address
+behindStA st tag t = do
+  f ← fileThen ":"
+  e ← digitsIn 4 0 255
+  n ← countOf st
+  give (address t f e Missing Missing false n (before "{" tag))
+
 module _ (alphabet : Alphabet) where
   -- "L, F, B, N: file, `:`, element (3 digits at most), optional `/`bit (2 at most), count."
   unfoldable pub lfbn : List ℕ → Option Address
@@ -147,18 +155,14 @@ module _ (alphabet : Alphabet) where
     x ← bitCount
     give (address (t .0) (t .1) e (Is p) (Is (orZero (x .0))) (present (x .0)) (x .1) (before "{" tag))) tag
 
-  -- "ST, A: file, `:`, element (4 digits at most), count."; "ST takes only {1} or {2}"
+  -- the letters
   unfoldable pub stOrA : Bool → Part FileType
   stOrA true = do letter alphabet "S"; letter alphabet "T"; give ST
   stOrA false = do letter alphabet "A"; give A
 
+  -- the letters, and what stands behind them
   unfoldable pub sta : Bool → List ℕ → Option Address
-  sta st tag = whole (do
-    t ← stOrA st
-    f ← fileThen ":"
-    e ← digitsIn 4 0 255
-    n ← countOf st
-    give (address t f e Missing Missing false n (before "{" tag))) tag
+  sta st tag = whole (do t ← stOrA st; behindStA st tag t) tag
 
   -- "S: `:`, element, optional `/`bit, count. File 2."
   unfoldable pub status : List ℕ → Option Address

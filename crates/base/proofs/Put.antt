@@ -130,3 +130,23 @@ module _ (l bs : List ℕ) (n : ℕ) (e : length bs ≡ n) (h : n ≤ length l) 
   pub put-rest : drop n (put l 0 bs) ≡ drop n l
   unfolding put
   put-rest = drop-at bs (drop (0 + length bs) l) n e ∙ ap (λ (k : ℕ). drop k l) (zero-add (length bs) ∙ e)
+
+-- ---- one part behind the other
+-- where there is room, `bs` was laid over `l` from `at` on
+pub record Lays (l : List ℕ) (at : ℕ) (bs : List ℕ) (r : ℕ) (l′ : List ℕ) : Type 0 where
+  pub room : at + length bs ≤ length l → Wrote l at bs r l′
+
+pub lays : {l m : List ℕ} {at r : ℕ} {bs : List ℕ} → Puts l at bs r m → Lays l at bs r m
+lays p = record { room = puts-wrote p }
+
+-- one part behind the other
+pub then : {l m k : List ℕ} {at r t : ℕ} {bs cs : List ℕ} → Lays l at bs r m → Lays m r cs t k → Lays l at (bs ++ cs) t k
+then {l} {m} {k} {at} {r} {t} {bs} {cs} a b = record { room = laid }
+  where
+    laid : at + length (bs ++ cs) ≤ length l → Wrote l at (bs ++ cs) t k
+    laid h =
+        let n : length (bs ++ cs) ≡ length bs + length cs = length-append bs cs in
+        let w : Wrote l at bs r m = a .room (omega arith) in
+        let e : length m ≡ length l = wrote-length w (omega arith) in
+        let i : r ≡ at + length bs = w .end in
+        and-then w (b .room (omega arith)) (omega arith)

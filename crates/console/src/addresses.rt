@@ -1,13 +1,35 @@
-// The call of the line protocol on addresses (module 3). The bytes of fields stand in `space`, the answer in `memory`.
+// The calls of the line protocol on addresses (module 3). The bytes of fields stand in `space`, the answer in `memory`.
 use crate::answers::Answer;
 use crate::lines::Args;
 use address::Address;
 use address::Maybe;
 use address::Parsed;
+use address::Reading;
+use address_dotted::Dotted;
 
-// `tag TAG`
-pub fn answer(a: Args, space: &[u8], memory: &mut [u8]) -> Answer {
-    match address::parse_tag(crate::lines::part(space, a, 0)) {
+// `tag TAG`, `dotted TAG`. A text is written to the first `room` bytes of `memory`.
+pub fn answer(a: Args, word: &[u8], space: &[u8], memory: &mut [u8]) -> Answer {
+    let tag = crate::lines::part(space, a, 0);
+    if text::is(word, b"tag") {
+        return parsed(a, tag, memory);
+    }
+    let n = text::within(a.room, memory);
+    match address_dotted::dotted(tag, &mut memory[..n]) {
+        Dotted::Refused(k) => Answer::Refused(k),
+        Dotted::Written(n) => Answer::Bytes(n),
+    }
+}
+
+// `new` before a call: its tag is read as a new entry.
+pub fn reading(a: Args) -> Reading {
+    if a.new {
+        return Reading::New;
+    }
+    Reading::Stored
+}
+
+fn parsed(a: Args, tag: &[u8], memory: &mut [u8]) -> Answer {
+    match address::parse_tag(tag, reading(a)) {
         Parsed::Refused(k) => Answer::Refused(k),
         Parsed::Is(x) => Answer::Text(shown(x, memory)),
     }

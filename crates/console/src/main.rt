@@ -35,7 +35,7 @@ fn call(a: Args, line: &[u8], space: &[u8], memory: &mut [u8], store: &mut [u8])
 fn without_processor(a: Args, word: &[u8], space: &[u8], memory: &mut [u8]) -> Answer {
     let area = a.area;
     match area {
-        Area::Address => crate::addresses::answer(a, space, memory),
+        Area::Address => crate::addresses::answer(a, word, space, memory),
         Area::Type => crate::types::answer(a, word, space, memory),
         Area::Element => crate::elements::answer(a, word, space, memory),
         _ => on_messages(a, word, space, memory),

@@ -68,7 +68,8 @@ fn requestor(s: &[u8]) -> Requestor {
 fn read(a: Args, space: &[u8], message: &mut [u8]) -> Answer {
     let q = requestor(crate::lines::part(space, a, 1));
     let tag = crate::lines::part(space, a, 0);
-    of_request(request::read_request(tag, q, crate::lines::word(a, 2), message))
+    let r = crate::addresses::reading(a);
+    of_request(request::read_request(tag, r, q, crate::lines::word(a, 2), message))
 }
 
 // The value of the fields KIND VALUE: `raw BYTES`, `text LATIN1`, `bool 0` or `bool 1`.
@@ -87,7 +88,8 @@ fn write(a: Args, space: &[u8], message: &mut [u8]) -> Answer {
     let q = requestor(crate::lines::part(space, a, 1));
     let tag = crate::lines::part(space, a, 0);
     let given = crate::lines::part(space, a, 4);
-    of_request(request::write_request(tag, v, given, q, crate::lines::word(a, 2), message))
+    let r = crate::addresses::reading(a);
+    of_request(request::write_request(tag, r, v, given, q, crate::lines::word(a, 2), message))
 }
 
 fn processor_type(a: Args, space: &[u8], message: &mut [u8]) -> Answer {

@@ -1,4 +1,4 @@
--- The kinds of a write, and the answer to one of no kind.
+-- The readings of a tag, the kinds of a write, and the answer to one of no kind.
 use Prim.Native.Nat.{ℕ}
 use mathlib.Core.Path.{_≡_, refl, sym}
 use mathlib.Core.Bool.{Bool, true, false, cond}
@@ -7,15 +7,25 @@ use borrow.Author.Tests.{eq-eqb, ne-eqb}
 use Rattle.address_spec.specs.declared.Address.{Address}
 use Rattle.address_spec.specs.declared.Parsed.{Parsed}
 use Rattle.address_spec.specs.declared.Parsed.the-variants as parsed
-use Rattle.address_spec.specs.Spelling.{addressOf}
+use Rattle.address_readings.specs.declared.Reading.{Reading}
+use Rattle.address_readings.specs.declared.Reading.the-variants.{New, Stored}
+use Rattle.address_readings.specs.Readings.{addressIn}
 use Rattle.request_spec.specs.declared.Request.the-variants as request
 use Rattle.request_spec.specs.declared.WriteValue.the-variants as value
 use Rattle.request_spec.specs.Request.{Asked, refused, requestOf, left, onAddress, bitAndCount}
 use Rattle.link_requests.specs.declared.kinds.WriteKind.{WriteKind}
 use Rattle.link_requests.specs.declared.kinds.WriteKind.the-variants as kind
-use Rattle.link_requests.specs.Kinds.{kindOf, unsuitedAddress, unsuited}
+use Rattle.link_requests.specs.Kinds.{readingOf, kindOf, unsuitedAddress, unsuited}
 
 module _ (k : ℕ) where
+  pub stored-1 : k ≡ 1 → Stored ≡ readingOf k
+  unfolding readingOf
+  stored-1 h = rw h
+
+  pub new-else : (k ≡ 1 → ⊥) → New ≡ readingOf k
+  unfolding readingOf
+  new-else h = rw (ne-eqb k 1 h)
+
   pub kind-0 : k ≡ 0 → kind.Is value.Raw ≡ kindOf k
   unfolding kindOf
   kind-0 h = rw h
@@ -36,24 +46,24 @@ module _ (k : ℕ) where
   unfolding kindOf
   no-kind a b c d = rw (ne-eqb k 0 a, ne-eqb k 1 b, ne-eqb k 2 c, ne-eqb k 3 d)
 
-module _ (tag : List ℕ) {p : Parsed} (e : p ≡ addressOf tag) where
-  pub unsuited-refused : (n : ℕ) → p ≡ parsed.Refused n → request.Refused n ≡ requestOf (unsuited tag)
+module _ (tag : List ℕ) (ρ : Reading) {p : Parsed} (e : p ≡ addressIn ρ tag) where
+  pub unsuited-refused : (n : ℕ) → p ≡ parsed.Refused n → request.Refused n ≡ requestOf (unsuited tag ρ)
   unfolding onAddress
   unsuited-refused n h = rw (← e, h)
 
   module _ (x : Address) {b : Bool} (h : p ≡ parsed.Is x) (q : b ≡ bitAndCount x) where
-    pub unsuited-3 : b ≡ true → request.Refused 3 ≡ requestOf (unsuited tag)
+    pub unsuited-3 : b ≡ true → request.Refused 3 ≡ requestOf (unsuited tag ρ)
     unfolding onAddress unsuitedAddress
     unsuited-3 t = rw (← e, h, ← q, t)
 
-    pub unsuited-4 : b ≡ false → request.Refused 4 ≡ requestOf (unsuited tag)
+    pub unsuited-4 : b ≡ false → request.Refused 4 ≡ requestOf (unsuited tag ρ)
     unfolding onAddress unsuitedAddress
     unsuited-4 t = rw (← e, h, ← q, t)
 
 -- it changes no lent memory
-pub unsuited-left : (tag l : List ℕ) → l ≡ left (unsuited tag) l
+pub unsuited-left : (tag : List ℕ) (ρ : Reading) (l : List ℕ) → l ≡ left (unsuited tag ρ) l
 unfolding onAddress unsuitedAddress
-unsuited-left tag l = go (addressOf tag)
+unsuited-left tag ρ l = go (addressIn ρ tag)
   where
     no : (b : Bool) → l ≡ left (cond b (refused 3) (refused 4)) l
     no true = refl

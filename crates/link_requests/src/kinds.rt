@@ -1,10 +1,21 @@
-// The kinds of a write.
+// The readings of a tag and the kinds of a write, by number.
 ghost use mathlib.Core.Path.{_≡_};
 ghost use Rattle.request_spec.specs.Request.{requestOf};
-ghost use Rattle.link_requests.specs.Kinds.{kindOf, unsuited as Kinds·unsuited};
+ghost use Rattle.link_requests.specs.Kinds.{readingOf, kindOf, unsuited as Kinds·unsuited};
 use address::Parsed;
+use address::Reading;
 use request::Request;
 use request::WriteValue;
+
+// A stored list's is 1. Every other number is a new entry, which takes nothing that a stored list doesn't.
+pub fn reading_of(reading: u8) -> Reading
+    ensures { λ r. ⌜ r ≡ readingOf reading ⌝ }
+{
+    if reading == 1 {
+        return Reading::Stored;
+    }
+    Reading::New
+}
 
 // What a number says to write.
 pub enum WriteKind {
@@ -31,11 +42,11 @@ pub fn kind_of(kind: u8) -> WriteKind
     WriteKind::Unknown
 }
 
-// The answer to a write of a kind that there is not: it suits no address. Refused with 1 to 4.
-pub fn unsuited(tag: &[u8]) -> Request
-    ensures { λ r. ⌜ r ≡ requestOf (Kinds·unsuited (now (tag .entry))) ⌝ }
+// The answer to a write of a kind that there is not: it suits no address. Refused with 1, 2, 39 (a new entry only), 3 and 4.
+pub fn unsuited(tag: &[u8], reading: Reading) -> Request
+    ensures { λ r. ⌜ r ≡ requestOf (Kinds·unsuited (now (tag .entry)) reading) ⌝ }
 {
-    let parsed = address::parse_tag(tag);
+    let parsed = address::parse_tag(tag, reading);
     match parsed {
         Parsed::Refused(n) => Request::Refused(n),
         Parsed::Is(x) => {

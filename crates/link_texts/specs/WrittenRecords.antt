@@ -6,6 +6,9 @@ use mathlib.Core.Option.{Option}
 use lib.IntN.{pos}
 use lib.ListN.{length}
 use Rattle.base.specs.Outcome.{Outcome, left}
+use Rattle.address_readings.specs.declared.Dotted.{Dotted}
+use Rattle.address_readings.specs.declared.Dotted.the-variants as dotted
+use Rattle.address_dotted.specs.DottedAnswers.{dottedOf}
 use Rattle.directory_size.specs.declared.DirectorySize.{DirectorySize}
 use Rattle.directory_size.specs.declared.DirectorySize.the-variants as size
 use Rattle.directory.specs.declared.Listed.{Listed}
@@ -31,6 +34,10 @@ written n count = record { refused = n; length = count }
 abbrev pub swappedRecord : Swapped → SlcWritten
 swappedRecord (swapped.Refused n) = written n 0
 swappedRecord (swapped.Written n) = written 0 n
+
+abbrev pub dottedRecord : Dotted → SlcWritten
+dottedRecord (dotted.Refused n) = written n 0
+dottedRecord (dotted.Written n) = written 0 n
 
 abbrev pub messageRecord : Message → SlcWritten
 messageRecord (message.Refused n) = written n 0
@@ -67,6 +74,11 @@ replyPart reply = endPart reply (replyDatalog reply)
 pub record Swaps (bs l : List ℕ) (r : SlcWritten) (l′ : List ℕ) : Type 0 where
   pub answer : r ≡ swappedRecord (writtenOf bs l)
   pub memory : l′ ≡ outOf bs l
+
+-- an address's text
+pub record Dots (o : Outcome) (l : List ℕ) (r : SlcWritten) (l′ : List ℕ) : Type 0 where
+  pub answer : r ≡ dottedRecord (dottedOf o)
+  pub memory : l′ ≡ left o l
 
 -- a request
 pub record Sends (o : Outcome) (l : List ℕ) (r : SlcWritten) (l′ : List ℕ) : Type 0 where

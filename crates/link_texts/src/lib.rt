@@ -3,7 +3,8 @@
 ghost use mathlib.Core.Path.{_≡_};
 ghost use Prim.Native.Nat.{_≤_};
 ghost use lib.ListN.{length};
-ghost use Rattle.link_texts.specs.WrittenRecords.{swappedRecord, messageRecord, statusRecord, listedRecord, sizeRecord, endPart, partOf, replyPart, written, Swaps};
+ghost use Rattle.link_texts.specs.WrittenRecords.{swappedRecord, dottedRecord, messageRecord, statusRecord, listedRecord, sizeRecord, endPart, partOf, replyPart, written, Swaps};
+use address_readings::Dotted;
 use directory::Listed;
 use directory_size::DirectorySize;
 use element_text::Swapped;
@@ -54,6 +55,15 @@ pub fn swapped_record(m: Swapped) -> SlcWritten
     match m {
         Swapped::Refused(n) => refused(n),
         Swapped::Written(n) => wrote(n),
+    }
+}
+
+pub fn dotted_record(m: Dotted) -> SlcWritten
+    ensures { λ r. ⌜ r ≡ dottedRecord m ⌝ }
+{
+    match m {
+        Dotted::Refused(n) => refused(n),
+        Dotted::Written(n) => wrote(n),
     }
 }
 

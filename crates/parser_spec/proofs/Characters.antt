@@ -19,7 +19,7 @@ use Rattle.parser_spec.proofs.Behind.{Leaves, behind-drop, further, the
 use Rattle.parser_spec.proofs.Written.{behind-same, one-read}
 
 -- ---- what a character leaves
-tested : {A : Type 0} {P : A → List ℕ → Type 0} (t : Bool) {x y : Option (A × List ℕ)} → Holds P x → Holds P y → Holds P (cond t x y)
+pub tested : {A : Type 0} {P : A → List ℕ → Type 0} (t : Bool) {x y : Option (A × List ℕ)} → Holds P x → Holds P y → Holds P (cond t x y)
 tested true f g = f
 tested false f g = g
 

@@ -31,6 +31,15 @@ module _ {X : Type 0} where
   weaker f nothing = nothing
   weaker f (that h) = that (f _ _ h)
 
+  -- what two laws say of one part, and what it gives
+  pub both-held : {P Q R : X → List ℕ → Type 0} {x : Option (X × List ℕ)} → ((v : X) (r : List ℕ) → P v r → Q v r → R v r) → Holds P x → Holds Q x → Holds R x
+  both-held f nothing nothing = nothing
+  both-held f (that h) (that k) = that (f _ _ h k)
+
+  pub itself : (x : Option (X × List ℕ)) → Holds (λ (v : X) (r : List ℕ). x ≡ some (v, r)) x
+  itself none = nothing
+  itself (some p) = that refl
+
   pub no-some : {A : Type 0} {v : X} → _≡_ {A = Option X} none (some v) → A
   no-some e = absurd (let w : _≡_ {A = ℕ} 0 1 = cc in omega arith)
 

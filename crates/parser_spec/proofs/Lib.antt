@@ -3,3 +3,4 @@ pub mod Behind
 pub mod Written
 pub mod Characters
 pub mod Scalars
+pub mod CharacterBytes

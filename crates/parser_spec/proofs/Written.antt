@@ -37,7 +37,11 @@ module _ {A : Type 0} where
   unfolding afterByte
   after-absent v p a s e = rw e
 
--- ---- one byte or character
+-- ---- a test, one byte or character
+pub passed : (t : Bool) (s : List ℕ) → t ≡ true → here t s ≡ some (tt, s)
+unfolding here
+passed t s e = rw e
+
 pub one-read : (char : Part ℕ) (test : ℕ → Bool) (x : ℕ) {s r : List ℕ} → char s ≡ some (x, r) → test x ≡ true → one char test s ≡ some (tt, r)
 unfolding one then here
 one-read char test x e h = rw (e, h)

@@ -1,4 +1,5 @@
--- The texts of the questions by their numbers (docs/QUESTIONS.md; document 01, "Refusals"). A new question is a row here and one in the code.
+-- The texts of the questions by their numbers (docs/QUESTIONS.md; document 01, "Refusals", and the requests of document 02). A new question is a row here and a line of the
+-- code's text. Rows ascend; a number that isn't there has no question.
 use Prim.Native.Nat.{ℕ}
 use mathlib.Core.Option.{Option}
 use mathlib.Core.List.{List, [], _∷_}
@@ -33,6 +34,7 @@ questions =
     ∷ (24, bytes "Has the text memory 82 bytes?")
     ∷ (25, bytes "Has the reply 63 bytes?")
     ∷ (26, bytes "Is the offset at most 65,535?")
+    ∷ (39, bytes "Is a timer's or counter's separator in a new entry a full stop or a slash?")
     ∷ []
 
 -- the text of a number; 0 means that nothing was refused, and has none

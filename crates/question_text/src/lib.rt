@@ -7,7 +7,7 @@ use reply_status_text::StatusText;
 pub fn question(number: u8, out: &mut [u8]) -> StatusText
     ensures { λ r. ⌜ Tells (questionOf number) (now (out .entry)) r (now (out .exit)) ⌝ }
 {
-    // a line for each, from line 1 on
+    // a line for each, from line 1 on; an empty one where no question has the number
     let lines = b"
 Is the tag at most 255 bytes and well-formed UTF-8?
 Does the tag spell an address?
@@ -35,6 +35,19 @@ Is the text for ST at most 82 bytes?
 Has the text memory 82 bytes?
 Has the reply 63 bytes?
 Is the offset at most 65,535?
+
+
+
+
+
+
+
+
+
+
+
+
+Is a timer's or counter's separator in a new entry a full stop or a slash?
 ";
     let line = text::part(lines, b'\n', number as usize);
     if line.len() > 0 {

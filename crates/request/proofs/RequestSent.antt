@@ -10,18 +10,21 @@ use borrow.Author.Tests.{le-leb, lt-leb, leb-true, eqb-true, not-true, not-false
 use lib.Dec.{leb, ltb, eqb}
 use lib.ListN.{length, length-append}
 use Rattle.base.specs.Put.{Wrote, Puts}
-use Rattle.base.proofs.Put.{puts-wrote}
+use Rattle.base.proofs.Put.{lays, then, puts-wrote}
 use Rattle.file_type.specs.declared.FileType.the-variants.{T, C}
 use Rattle.address_spec.specs.declared.Address.{Address}
 use Rattle.address_spec.specs.declared.Parsed.{Parsed}
 use Rattle.address_spec.specs.declared.Parsed.the-variants as parsed
 use Rattle.address_spec.specs.Elements.{Elements, elementsOf}
-use Rattle.address_spec.specs.Spelling.{addressOf, orZero}
+use Rattle.address_spec.specs.Spelling.{orZero}
+use Rattle.address_readings.specs.declared.Reading.{Reading}
+use Rattle.address_readings.specs.Readings.{addressIn}
 use Rattle.address_spec.proofs.Ranges.{ranged}
+use Rattle.address_readings.proofs.Readings.{taken}
 use Rattle.request_frame.specs.RequestFrame.{addressField, typed, typedLength}
 use Rattle.request_frame.specs.declared.Target.{Target}
 use Rattle.request_frame.specs.declared.Requestor.{Requestor}
-use Rattle.request_frame.proofs.Laid.{lays, then, short-length, field-most}
+use Rattle.request_frame.proofs.Laid.{short-length, field-most}
 use Rattle.request_spec.specs.SizeAnswers.{sized, sizeOf, dataSizeOf}
 use Rattle.request_spec.specs.Request.{Asked, refused, sends, Builds, bitAndCount, place, readSize, readMessage, readAddress, onAddress, is, presetOrAccum, suits, supplied, lastAddress, writeMessage, writeData, writeAddress}
 use Rattle.request_spec.specs.declared.Request.{Request}
@@ -30,13 +33,13 @@ use Rattle.request_spec.specs.declared.WriteValue.{WriteValue}
 use Rattle.request_spec.specs.declared.Size.{Size}
 use Rattle.request_spec.specs.declared.Size.the-variants as size
 
--- ---- 1 and 2
-module _ (tag : List ℕ) (f : Address → Asked) {p : Parsed} {l : List ℕ} (e : p ≡ addressOf tag) where
-  pub no-address : (k : ℕ) → p ≡ parsed.Refused k → Builds (onAddress (addressOf tag) f) l (request.Refused k) l
+-- ---- 1, 2 and 39
+module _ (tag : List ℕ) (ρ : Reading) (f : Address → Asked) {p : Parsed} {l : List ℕ} (e : p ≡ addressIn ρ tag) where
+  pub no-address : (k : ℕ) → p ≡ parsed.Refused k → Builds (onAddress (addressIn ρ tag) f) l (request.Refused k) l
   unfolding onAddress
   no-address k h = rw (← e, h) (record { answer = refl; now = refl })
 
-  pub on-address : (x : Address) {r : Request} {m : List ℕ} → p ≡ parsed.Is x → Builds (f x) l r m → Builds (onAddress (addressOf tag) f) l r m
+  pub on-address : (x : Address) {r : Request} {m : List ℕ} → p ≡ parsed.Is x → Builds (f x) l r m → Builds (onAddress (addressIn ρ tag) f) l r m
   unfolding onAddress
   on-address x h b = rw (← e, h) b
 
@@ -77,9 +80,9 @@ seven f e p = go
         let c : length (addressField e) ≤ 3 = field-most e in
         omega arith
 
-module _ (tag : List ℕ) (x : Address) (e : addressOf tag ≡ parsed.Is x) where
+module _ (tag : List ℕ) (ρ : Reading) (x : Address) (e : addressIn ρ tag ≡ parsed.Is x) where
   at-position-27 : typedLength (place (elementsOf x) (orZero (x .«pos_number»))) ≤ 27
-  at-position-27 = seven (x .«file_number») (x .«element_number») (orZero (x .«pos_number»)) (go (ranged tag x e .small))
+  at-position-27 = seven (x .«file_number») (x .«element_number») (orZero (x .«pos_number»)) (go (ranged tag x (taken ρ tag x e) .small))
     where
       go : (orZero (x .«pos_number») ≡ 0) ⊎ (x .«file_number» ≤ 1) → (orZero (x .«pos_number») < 255) ⊎ (x .«file_number» < 255)
       go (inl h) = inl (omega arith)
@@ -108,14 +111,14 @@ module _ (q : Requestor) (n : ℕ) (x : Address) {b : Bool} {l : List ℕ} (c : 
     unfolding readAddress
     read-6 k g r = rw (← c, h, got (leb (readSize (elementsOf x)) 255) _ k (sym d ∙ g) .0, lt-leb 27 (length l) r) (record { answer = refl; now = refl })
 
-    pub read-built : (k : ℕ) (tag : List ℕ) {a : Parsed} {p : Target} {m : List ℕ} {i t : ℕ} → z ≡ size.Is k → 27 ≤ length l → a ≡ addressOf tag → a ≡ parsed.Is x
+    pub read-built : (k : ℕ) (tag : List ℕ) (ρ : Reading) {a : Parsed} {p : Target} {m : List ℕ} {i t : ℕ} → z ≡ size.Is k → 27 ≤ length l → a ≡ addressIn ρ tag → a ≡ parsed.Is x
         → i ≡ orZero (x .«pos_number») → p ≡ place (elementsOf x) i → length (typed q n 0xA2 k p) ≡ typedLength p → Puts l 0 (typed q n 0xA2 k p) t m
         → Builds (readAddress q n (length l) x) l (request.Built x t) m
     unfolding readAddress readMessage
-    read-built k tag {a} {p} {m} {i} {t} g r i′ j o₁ o₂ e₀ w =
+    read-built k tag ρ {a} {p} {m} {i} {t} g r i′ j o₁ o₂ e₀ w =
         let y : (leb (readSize (elementsOf x)) 255 ≡ true) × (readSize (elementsOf x) ≡ k) = got (leb (readSize (elementsOf x)) 255) (readSize (elementsOf x)) k (sym d ∙ g) in
         let s : Target = place (elementsOf x) (orZero (x .«pos_number»)) in
-        let f : typedLength s ≤ 27 = at-position-27 tag x (sym i′ ∙ j) in
+        let f : typedLength s ≤ 27 = at-position-27 tag ρ x (sym i′ ∙ j) in
         let o : p ≡ s = o₂ ∙ ap (place (elementsOf x)) o₁ in
         let e : length (typed q n 0xA2 k s) ≡ typedLength s = subst (λ (z : Target). length (typed q n 0xA2 k z) ≡ typedLength z) o e₀ in
         let w′ : Puts l 0 (typed q n 0xA2 k s) t m = subst (λ (z : Target). Puts l 0 (typed q n 0xA2 k z) t m) o w in
@@ -145,17 +148,17 @@ module _ (v : WriteValue) (s : List ℕ) (q : Requestor) (n : ℕ) (x : Address)
           rw (← c, h, ← c′, not-false u h′, got (leb 2 (length (supplied v s x)) && leb (length (supplied v s x)) 257) _ k (sym d ∙ g) .0, lt-leb 284 (length l) r)
           (record { answer = refl; now = refl })
 
-      pub write-built : (k : ℕ) (tag : List ℕ) {a : Parsed} {p : Target} {m j : List ℕ} {i r t : ℕ} → z ≡ size.Is k → 284 ≤ length l → a ≡ addressOf tag → a ≡ parsed.Is x
+      pub write-built : (k : ℕ) (tag : List ℕ) (ρ : Reading) {a : Parsed} {p : Target} {m j : List ℕ} {i r t : ℕ} → z ≡ size.Is k → 284 ≤ length l → a ≡ addressIn ρ tag → a ≡ parsed.Is x
           → i ≡ lastAddress x → p ≡ place (elementsOf x) i → length (typed q n 0xAB k p) ≡ typedLength p → Puts l 0 (typed q n 0xAB k p) r m → Puts m r (supplied v s x) t j
           → Builds (writeAddress v s q n (length l) x) l (request.Built x t) j
       unfolding writeAddress writeData writeMessage
-      write-built k tag {a} {p} {m} {j} {i} {r} {t} g o a₁ a₂ o₁ o₂ e₀ w w′ =
+      write-built k tag ρ {a} {p} {m} {j} {i} {r} {t} g o a₁ a₂ o₁ o₂ e₀ w w′ =
           let e : List ℕ = supplied v s x in
           let z′ : (leb 2 (length e) && leb (length e) 257) ≡ true × (length e - 2 ≡ k) = got (leb 2 (length e) && leb (length e) 257) (length e - 2) k (sym d ∙ g) in
           let h₂ : length e ≤ 257 = leb-true (length e) 257 (last (leb 2 (length e)) (leb (length e) 257) (z′ .0)) in
           let at : Target = place (elementsOf x) (lastAddress x) in
           let f : p ≡ at = o₂ ∙ ap (place (elementsOf x)) o₁ in
-          let f₁ : typedLength at ≤ 27 = at-last-27 tag x (sym a₁ ∙ a₂) in
+          let f₁ : typedLength at ≤ 27 = at-last-27 tag ρ x (sym a₁ ∙ a₂) in
           let f₂ : length (typed q n 0xAB k at) ≡ typedLength at = subst (λ (z : Target). length (typed q n 0xAB k z) ≡ typedLength z) f e₀ in
           let f₃ : length (typed q n 0xAB k at ++ e) ≡ length (typed q n 0xAB k at) + length e = length-append (typed q n 0xAB k at) e in
           let w₁ : Puts l 0 (typed q n 0xAB k at) r m = subst (λ (z : Target). Puts l 0 (typed q n 0xAB k z) r m) f w in

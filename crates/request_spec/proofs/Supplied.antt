@@ -13,13 +13,12 @@ use Rattle.base.specs.Numbers.{lowFirst}
 use Rattle.base.specs.Put.{Wrote, Puts}
 use Rattle.base.proofs.Numbers.{low-length}
 use Rattle.base.proofs.Parts.{two-of}
-use Rattle.base.proofs.Put.{puts-room, puts-full}
+use Rattle.base.proofs.Put.{Lays, lays, then, puts-room, puts-full}
 use Rattle.file_type.specs.Table.{row}
 use Rattle.element_text.specs.Text.{asciiText, stringText}
 use Rattle.element_text.proofs.Text as swap-text
 use Rattle.address_spec.specs.declared.Address.{Address}
 use Rattle.address_spec.specs.Spelling.{orZero}
-use Rattle.request_frame.proofs.Laid.{Lays, lays, then}
 use Rattle.request_spec.specs.SizeAnswers.{dataSizeOf}
 use Rattle.request_spec.specs.Request.{isAscii, bitData, textData, supplied}
 use Rattle.request_spec.specs.declared.WriteValue.{WriteValue}

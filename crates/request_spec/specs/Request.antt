@@ -16,7 +16,9 @@ use Rattle.address_spec.specs.declared.Address.{Address}
 use Rattle.address_spec.specs.declared.Parsed.{Parsed}
 use Rattle.address_spec.specs.declared.Parsed.the-variants as parsed
 use Rattle.address_spec.specs.Elements.{Elements, elementsOf}
-use Rattle.address_spec.specs.Spelling.{addressOf, orZero}
+use Rattle.address_spec.specs.Spelling.{orZero}
+use Rattle.address_readings.specs.declared.Reading.{Reading}
+use Rattle.address_readings.specs.Readings.{addressIn}
 use Rattle.request_frame.specs.RequestFrame.{typed}
 use Rattle.request_frame.specs.declared.Target.{Target}
 use Rattle.request_frame.specs.declared.Requestor.{Requestor}
@@ -73,9 +75,9 @@ unfoldable pub onAddress : Parsed → (Address → Asked) → Asked
 onAddress (parsed.Refused n) f = refused n
 onAddress (parsed.Is x) f = f x
 
--- "read (`read_request`: 1, 2, 3, 5, 6)"
-abbrev pub reading : List ℕ → Requestor → ℕ → List ℕ → Asked
-reading tag q sequence out = onAddress (addressOf tag) (readAddress q sequence (length out))
+-- "read (`read_request`: 1, 2, 3, 5, 6)"; A12: "Every call that takes a tag .. is told which of the two readings holds", "39 .. right after 2"
+abbrev pub reading : List ℕ → Reading → Requestor → ℕ → List ℕ → Asked
+reading tag r q sequence out = onAddress (addressIn r tag) (readAddress q sequence (length out))
 
 -- ---- write
 abbrev pub is : Address → FileType → Bool
@@ -134,6 +136,6 @@ unfoldable pub writeAddress : WriteValue → List ℕ → Requestor → ℕ → 
 writeAddress v s q sequence room x =
     cond (bitAndCount x) (refused 3) (cond (suits v x) (writeData q sequence room x (supplied v s x)) (refused 4))
 
--- "write (`write_request`: 1 to 6)"
-abbrev pub writing : List ℕ → WriteValue → List ℕ → Requestor → ℕ → List ℕ → Asked
-writing tag v s q sequence out = onAddress (addressOf tag) (writeAddress v s q sequence (length out))
+-- "write (`write_request`: 1 to 6)"; A12 as above
+abbrev pub writing : List ℕ → Reading → WriteValue → List ℕ → Requestor → ℕ → List ℕ → Asked
+writing tag r v s q sequence out = onAddress (addressIn r tag) (writeAddress v s q sequence (length out))

@@ -14,7 +14,8 @@ use Rattle.directory_sys0.specs.declared.Sys0Info.{Sys0Info}
 use Rattle.request_frame.specs.RequestFrame.{commandHead, addressField, twoAddresses}
 use Rattle.request_frame.specs.declared.Target.{Target}
 use Rattle.request_frame.specs.declared.Requestor.{Requestor}
-use Rattle.request_frame.proofs.Laid.{lays as where-room, then, command-length, two-length, field-most}
+use Rattle.base.proofs.Put.{lays as where-room, then}
+use Rattle.request_frame.proofs.Laid.{command-length, two-length, field-most}
 use Rattle.request_untagged.specs.Requests.{Builds, sent, processorType, datalogRequestor, datalog, directorySize, directoryRead}
 use Rattle.request_untagged.specs.declared.Message.the-variants as message
 

@@ -15,6 +15,7 @@ use denote.Triple.Entry.{Args, Res}
 use Rattle.slc_link.proofs.requests.slc_read_request as read-request
 use Rattle.slc_link.proofs.simulator.slc_pccc as pccc
 use Rattle.link_processor.specs.ProcessorRecords.{SaysInNumbers}
+use Rattle.link_requests.specs.Kinds.{readingOf}
 use Rattle.link_requests.specs.RequestRecords.{Asks}
 use Rattle.request_spec.specs.Request.{reading}
 
@@ -26,5 +27,5 @@ module _ {M : Type 1} (𝓤 : URA M) (H : Heap 𝓤) (A : Atoms 𝓤) (mem : Mem
 
   pub slc-read-request-asks : (κs : Lfts 2) (a : Args read-request.signature κs) (r : Res read-request.signature κs) (e : AtExit read-request.ended κs)
       → read-request.clauses 𝓤 H A mem run κs a .ensures tt r e
-      ≡ fact 𝓤 (Asks (reading (now (a .0)) (a .1 .0) (a .1 .1 .0) (now (a .1 .1 .1 .0))) (now (a .1 .1 .1 .0)) r (now (e .1 .1 .1 .0)))
+      ≡ fact 𝓤 (Asks (reading (now (a .0)) (readingOf (a .1 .0)) (a .1 .1 .0) (a .1 .1 .1 .0) (now (a .1 .1 .1 .1 .0))) (now (a .1 .1 .1 .1 .0)) r (now (e .1 .1 .1 .1 .0)))
   slc-read-request-asks κs a r e = refl

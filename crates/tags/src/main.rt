@@ -1,4 +1,4 @@
-// Reads tags by line, and prints the read request of each in capital hexadecimal, or `refused` and the number.
+// Reads tags by line, as new entries, and prints the read request of each in capital hexadecimal, or `refused` and the number.
 ghost use mathlib.Core.Path.{_≡_};
 ghost use mathlib.Core.Bool.{true, false};
 ghost use Prim.Native.Nat.{_≤_};

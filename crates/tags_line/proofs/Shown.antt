@@ -10,16 +10,16 @@ use mir.Syntax.{w8}
 use mir.Val.{Fits}
 use Rattle.base.specs.Chars.{bytes}
 use Rattle.base.specs.Put.{put, Wrote, Puts}
-use Rattle.base.proofs.Put.{wrote-length, puts-room, puts-full, put-first}
+use Rattle.base.proofs.Put.{lays, then, wrote-length, puts-room, puts-full, put-first}
 use Rattle.text.specs.Hex.{hex}
 use Rattle.text.proofs.Pairs.{hex-length}
 use Rattle.decimal.specs.Decimals.{decimal}
 use Rattle.decimal.proofs.Decimals.{decimal-length}
 use Rattle.address_spec.specs.declared.Address.{Address}
-use Rattle.address_spec.specs.Spelling.{addressOf}
+use Rattle.address_readings.specs.declared.Reading.the-variants.{New}
+use Rattle.address_readings.specs.Readings.{addressIn}
 use Rattle.request_frame.specs.RequestFrame.{defaultRequestor}
 use Rattle.request_frame.specs.declared.Requestor.{Requestor}
-use Rattle.request_frame.proofs.Laid.{lays, then}
 use Rattle.request_spec.specs.Request.{Asked, refused, sends, Builds, onAddress, readAddress}
 use Rattle.request_spec.specs.declared.Request.{Request}
 use Rattle.request_spec.specs.declared.Request.the-variants as request
@@ -100,19 +100,19 @@ module _ (o : Asked) (l m : List ℕ) (x : Request) (b : Builds o l x m) (n : �
   message-counts = sym (length-take-le n m message-fits)
 
 -- the request that the definition asks for
-module _ (tag : List ℕ) (q : Requestor) (l m : List ℕ) (x : Request) (b : Builds (onAddress (addressOf tag) (readAddress q 0 27)) l x m) (n : ℕ) (d : q ≡ defaultRequestor) where
-  is-asked : onAddress (addressOf tag) (readAddress q 0 27) ≡ asked tag
+module _ (tag : List ℕ) (q : Requestor) (l m : List ℕ) (x : Request) (b : Builds (onAddress (addressIn New tag) (readAddress q 0 27)) l x m) (n : ℕ) (d : q ≡ defaultRequestor) where
+  is-asked : onAddress (addressIn New tag) (readAddress q 0 27) ≡ asked tag
   unfolding asked
-  is-asked = ap (λ (p : Requestor). onAddress (addressOf tag) (readAddress p 0 27)) d
+  is-asked = ap (λ (p : Requestor). onAddress (addressIn New tag) (readAddress p 0 27)) d
 
   pub answer-refused : {out out′ : List ℕ} {at r : ℕ} → x ≡ request.Refused n → Fits w8 n → Puts out at (answer (refused n)) r out′ → Answered tag out at r out′
   answer-refused {out} {out′} {at} {r} e f w =
-      let o : refused n ≡ asked tag = sym (refusal n (onAddress (addressOf tag) (readAddress q 0 27)) l m x b e) ∙ is-asked in
+      let o : refused n ≡ asked tag = sym (refusal n (onAddress (addressIn New tag) (readAddress q 0 27)) l m x b e) ∙ is-asked in
       record { puts = subst (λ (y : Asked). Puts out at (answer y) r out′) o w; most = subst (λ (y : Asked). length (answer y) ≤ 64) o (refused-most n f) }
 
   pub answer-message : {out out′ : List ℕ} {at r : ℕ} (a : Address) → x ≡ request.Built a n → length m ≡ 27 → Puts out at (hex (take n m) ++ (10 ∷ [])) r out′ → Answered tag out at r out′
   answer-message {out} {out′} {at} {r} a e len w =
-      let p = message n (onAddress (addressOf tag) (readAddress q 0 27)) l m x a b e in
+      let p = message n (onAddress (addressIn New tag) (readAddress q 0 27)) l m x a b e in
       let o : hex (take n m) ++ (10 ∷ []) ≡ answer (asked tag) = sym (p .1) ∙ ap answer is-asked in
       let k : length (take n m) ≤ 27 = simp length-take (omega arith) in
       record { puts = subst (λ (y : List ℕ). Puts out at y r out′) o w; most = subst (λ (y : List ℕ). length y ≤ 64) o (hex-most (take n m) k) }

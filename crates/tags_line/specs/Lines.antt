@@ -8,7 +8,8 @@ use Rattle.base.specs.Chars.{bytes}
 use Rattle.text.specs.Hex.{hex}
 use Rattle.text.specs.Line.{before}
 use Rattle.decimal.specs.Decimals.{decimal}
-use Rattle.address_spec.specs.Spelling.{addressOf}
+use Rattle.address_readings.specs.declared.Reading.the-variants.{New}
+use Rattle.address_readings.specs.Readings.{addressIn}
 use Rattle.request_frame.specs.RequestFrame.{defaultRequestor}
 use Rattle.request_spec.specs.Request.{Asked, refused, sends, onAddress, readAddress}
 
@@ -18,9 +19,9 @@ unfoldable pub lines : List ℕ → List (List ℕ)
 lines [] = []
 lines (b ∷ s) = cond (eqb b 10) ([] ∷ lines s) (before b (lines s))
 
--- "default requester, sequence 0": questions 1, 2, 3 and 5, put to the tag; with 27 bytes of output the answer to 6 is yes
+-- "default requester, sequence 0": questions 1, 2, 3 and 5, put to the tag; with 27 bytes of output the answer to 6 is yes. A12: "Program `tags` uses the new reading.": 39 behind 2
 unfoldable pub asked : List ℕ → Asked
-asked tag = onAddress (addressOf tag) (readAddress defaultRequestor 0 27)
+asked tag = onAddress (addressIn New tag) (readAddress defaultRequestor 0 27)
 
 -- "prints capital hexadecimal or `refused` and the number"
 unfoldable pub answer : Asked → List ℕ

@@ -5,6 +5,7 @@ ghost use Rattle.request_spec.specs.Request.{refused};
 ghost use Rattle.text.specs.Hex.{hex};
 ghost use Rattle.tags_line.specs.Lines.{answer as Lines·answer};
 ghost use Rattle.tags_line.specs.Answered.{Answered};
+use address_readings::Reading;
 use request::Request;
 use request_frame::Requestor;
 
@@ -38,7 +39,7 @@ pub fn answer(tag: &[u8], out: &mut [u8], at: usize) -> usize
     ensures { λ r. ⌜ Answered (now (tag .entry)) (now (out .entry)) at r (now (out .exit)) ⌝ }
 {
     let mut message = [0u8; 27];
-    let asked = request::read_request(tag, Requestor::default(), 0, &mut message);
+    let asked = request::read_request(tag, Reading::New, Requestor::default(), 0, &mut message);
     match asked {
         Request::Refused(n) => put_refused(out, at, n),
         Request::Built(_, n) => put_message(out, at, &message[..n]),

@@ -9,13 +9,14 @@ use lib.ListN.{length, take, length-append, length-take}
 use lib.Seq.{take-append-le, take-all}
 use borrow.Author.Tests.{lt-leb}
 use Rattle.address_spec.specs.Spelling.{addressOf}
+use Rattle.address_readings.specs.Readings.{retired, addressIn}
 use Rattle.request_spec.specs.Request.{refused, onAddress}
 use Rattle.tags_line.specs.Lines.{asked, answer, answers}
 use Rattle.tags_stream.specs.Pieces.{ended, rest, held}
 
 -- a line of more than 255 bytes, whatever they are
 pub long : (l : List ℕ) → 255 < length l → asked l ≡ refused 1
-unfolding asked addressOf onAddress
+unfolding asked addressIn retired addressOf onAddress
 long l h = rw (lt-leb (length l) 255 h)
 
 module _ (l : List ℕ) (h : 255 < length l) where

@@ -25,5 +25,5 @@ module _ {M : Type 1} (𝓤 : URA M) (H : Heap 𝓤) (A : Atoms 𝓤) (mem : Mem
 
   pub read-request-builds : (κs : Lfts 2) (a : Args read-request.signature κs) (r : Res read-request.signature κs) (e : AtExit read-request.ended κs)
       → read-request.clauses 𝓤 H A mem run κs a .ensures tt r e
-      ≡ fact 𝓤 (Builds (reading (now (a .0)) (a .1 .0) (a .1 .1 .0) (now (a .1 .1 .1 .0))) (now (a .1 .1 .1 .0)) r (now (e .1 .1 .1 .0)))
+      ≡ fact 𝓤 (Builds (reading (now (a .0)) (a .1 .0) (a .1 .1 .0) (a .1 .1 .1 .0) (now (a .1 .1 .1 .1 .0))) (now (a .1 .1 .1 .1 .0)) r (now (e .1 .1 .1 .1 .0)))
   read-request-builds κs a r e = refl

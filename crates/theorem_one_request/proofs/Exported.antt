@@ -11,6 +11,7 @@ use Rattle.request_frame.specs.declared.Requestor.{Requestor}
 use Rattle.request_spec.specs.Request.{Asked, refused, sends, reading, requestOf}
 use Rattle.request_spec.proofs.ElementsTold.{code-same, same}
 use Rattle.link_requests.specs.declared.requests.SlcRequest.{SlcRequest}
+use Rattle.link_requests.specs.Kinds.{readingOf}
 use Rattle.link_requests.specs.RequestRecords.{fullAddress, noAddress, requestRecord}
 use Rattle.theorem_one_request.specs.OneRequest.{Accepts}
 use Rattle.theorem_one_request.specs.Exported.{Exports, Agree, OneRequestOfExports}
@@ -40,15 +41,15 @@ module _ {q : Requestor} {sequence : ℕ} where
 
   behind : (a : Exports q sequence) → Behind a
   unfolding noAddress
-  behind a = go (reading (a .tag) q sequence (a .out)) refl (a .meets .answer)
+  behind a = go (reading (a .tag) (readingOf (a .how)) q sequence (a .out)) refl (a .meets .answer)
     where
-      go : (o : Asked) → reading (a .tag) q sequence (a .out) ≡ o → a .answer ≡ requestRecord (requestOf o) → Behind a
+      go : (o : Asked) → reading (a .tag) (readingOf (a .how)) q sequence (a .out) ≡ o → a .answer ≡ requestRecord (requestOf o) → Behind a
       go (refused k) e h =
-          let s : 0 < k = refusal-some (a .tag) q sequence (a .out) k e in
+          let s : 0 < k = refusal-some (a .tag) (readingOf (a .how)) q sequence (a .out) k e in
           let z : k ≡ 0 = sym (ap (λ (r : SlcRequest). r .address .refused) h) ∙ a .accepts in
           absurd (omega arith)
       go (sends x m) e h = record {
-        call = record { tag = a .tag; out = a .out; left = a .left; address = x; length = length m; meets = record { answer = ap requestOf (sym e); now = a .meets .memory } };
+        call = record { tag = a .tag; how = readingOf (a .how); out = a .out; left = a .left; address = x; length = length m; meets = record { answer = ap requestOf (sym e); now = a .meets .memory } };
         bytes = ap (λ (r : SlcRequest). take (r .length) (a .left)) (sym h);
         address = ap (λ (r : SlcRequest). r .address) h;
       }

@@ -17,6 +17,10 @@ use Rattle.address_spec.specs.Elements.{Elements, elementsOf}
 use Rattle.parser_spec.specs.Characters.{wellFormed, utf8}
 use Rattle.address_spec.specs.Spelling.{addressOf, accepted, formOf, separates}
 use Rattle.address_spec.proofs.Ranges.{Ranged, ranged}
+use Rattle.address_readings.specs.declared.Reading.{Reading}
+use Rattle.address_readings.specs.declared.Reading.the-variants.{New, Stored}
+use Rattle.address_readings.specs.Readings.{retired, addressIn}
+use Rattle.address_readings.proofs.Readings.{taken}
 use Rattle.request_frame.specs.declared.Requestor.{Requestor}
 use Rattle.request_spec.specs.declared.Request.the-variants as request
 use Rattle.request_spec.specs.Request.{Asked, refused, sends, bitAndCount, readSize, readMessage, readAddress, onAddress, reading, Builds}
@@ -45,26 +49,35 @@ some-number tag = go (leb (length tag) 255 && wellFormed tag) (formOf utf8 separ
     go true (some x) = tt
     go false f = omega arith
 
+some-number-in : (tag : List ℕ) (ρ : Reading) → Some (addressIn ρ tag)
+unfolding addressIn
+some-number-in tag Stored = some-number tag
+some-number-in tag New = go (retired tag)
+  where
+    go : (b : Bool) → Some (cond b (parsed.Refused 39) (addressOf tag))
+    go true = omega arith
+    go false = some-number tag
+
 abbrev Reads : Requestor → ℕ → Asked → Type 0
 Reads q sequence (refused k) = 0 < k
 Reads q sequence (sends x m) = Sent q sequence x m
 
-reads : (tag : List ℕ) (q : Requestor) (sequence : ℕ) (out : List ℕ) → Reads q sequence (reading tag q sequence out)
+reads : (tag : List ℕ) (ρ : Reading) (q : Requestor) (sequence : ℕ) (out : List ℕ) → Reads q sequence (reading tag ρ q sequence out)
 unfolding onAddress readAddress
-reads tag q sequence out = go (addressOf tag) refl
+reads tag ρ q sequence out = go (addressIn ρ tag) refl
   where
-    by-tests : (x : Address) → addressOf tag ≡ parsed.Is x → (a b c : Bool) → Reads q sequence (cond a (refused 3) (cond b (cond c (sends x (readMessage q sequence (elementsOf x))) (refused 6)) (refused 5)))
+    by-tests : (x : Address) → addressIn ρ tag ≡ parsed.Is x → (a b c : Bool) → Reads q sequence (cond a (refused 3) (cond b (cond c (sends x (readMessage q sequence (elementsOf x))) (refused 6)) (refused 5)))
     by-tests x e true b c = omega arith
     by-tests x e false false c = omega arith
     by-tests x e false true false = omega arith
-    by-tests x e false true true = record { bytes = refl; range = in-fields (ranged tag x e) }
+    by-tests x e false true true = record { bytes = refl; range = in-fields (ranged tag x (taken ρ tag x e)) }
 
-    go : (p : Parsed) → addressOf tag ≡ p → Reads q sequence (onAddress p (readAddress q sequence (length out)))
-    go (parsed.Refused k) e = subst Some e (some-number tag)
+    go : (p : Parsed) → addressIn ρ tag ≡ p → Reads q sequence (onAddress p (readAddress q sequence (length out)))
+    go (parsed.Refused k) e = subst Some e (some-number-in tag ρ)
     go (parsed.Is x) e = by-tests x e (bitAndCount x) (leb (readSize (elementsOf x)) 255) (leb 27 (length out))
 
-pub refusal-some : (tag : List ℕ) (q : Requestor) (sequence : ℕ) (out : List ℕ) (k : ℕ) → reading tag q sequence out ≡ refused k → 0 < k
-refusal-some tag q sequence out k h = subst (Reads q sequence) h (reads tag q sequence out)
+pub refusal-some : (tag : List ℕ) (ρ : Reading) (q : Requestor) (sequence : ℕ) (out : List ℕ) (k : ℕ) → reading tag ρ q sequence out ≡ refused k → 0 < k
+refusal-some tag ρ q sequence out k h = subst (Reads q sequence) h (reads tag ρ q sequence out)
 
 -- the elements of two messages, with anything behind them
 told : {q : Requestor} {sequence : ℕ} {x y : Address} {m n : List ℕ} → Sent q sequence x m → Sent q sequence y n → (r s : List ℕ) → m ++ r ≡ n ++ s → elementsOf x ≡ elementsOf y
@@ -76,9 +89,9 @@ bytes-same : {q : Requestor} {sequence : ℕ} {x y : Address} {m n : List ℕ} �
 bytes-same {q} {sequence} a b z = a .bytes ∙ ap (readMessage q sequence) z ∙ sym (b .bytes)
 
 pub one-request : OneRequest
-one-request s t q sequence out out′ x y m n h k =
-    let a : Sent q sequence x m = subst (Reads q sequence) h (reads s q sequence out) in
-    let b : Sent q sequence y n = subst (Reads q sequence) k (reads t q sequence out′) in
+one-request s t i j q sequence out out′ x y m n h k =
+    let a : Sent q sequence x m = subst (Reads q sequence) h (reads s i q sequence out) in
+    let b : Sent q sequence y n = subst (Reads q sequence) k (reads t j q sequence out′) in
     ((λ z. told a b [] [] (ap (λ (l : List ℕ). l ++ []) z)), bytes-same a b)
 
 -- ---- of the call
@@ -87,16 +100,16 @@ module _ {q : Requestor} {sequence : ℕ} where
   record Message (a : Accepts q sequence) : Type 0 where
     bytes : List ℕ
     behind : List ℕ
-    sends-it : reading (a .tag) q sequence (a .out) ≡ sends (a .address) bytes
+    sends-it : reading (a .tag) (a .how) q sequence (a .out) ≡ sends (a .address) bytes
     count : a .length ≡ length bytes
     front : take (a .length) (a .left) ≡ bytes
     whole : a .left ≡ bytes ++ behind
 
   message : (a : Accepts q sequence) → Message a
   unfolding put
-  message a = go (reading (a .tag) q sequence (a .out)) refl (a .meets)
+  message a = go (reading (a .tag) (a .how) q sequence (a .out)) refl (a .meets)
     where
-      go : (o : Asked) → reading (a .tag) q sequence (a .out) ≡ o → Builds o (a .out) (request.Built (a .address) (a .length)) (a .left) → Message a
+      go : (o : Asked) → reading (a .tag) (a .how) q sequence (a .out) ≡ o → Builds o (a .out) (request.Built (a .address) (a .length)) (a .left) → Message a
       go (refused k) e b = let h : request.Built (a .address) (a .length) ≡ request.Refused k = b .answer in absurd (let w : _≡_ {A = ℕ} 0 1 = cc in omega arith)
       go (sends y m) e b =
           let h : request.Built (a .address) (a .length) ≡ request.Built y (length m) = b .answer in
@@ -113,12 +126,12 @@ module _ {q : Requestor} {sequence : ℕ} where
           }
 
   sent-by : (a : Accepts q sequence) → Sent q sequence (a .address) (message a .bytes)
-  sent-by a = subst (Reads q sequence) (message a .sends-it) (reads (a .tag) q sequence (a .out))
+  sent-by a = subst (Reads q sequence) (message a .sends-it) (reads (a .tag) (a .how) q sequence (a .out))
 
 pub one-request-of-calls : OneRequestOfCalls
 one-request-of-calls q sequence a b =
     let same : (message a .bytes ≡ message b .bytes) ↔ (elementsOf (a .address) ≡ elementsOf (b .address)) =
-    one-request (a .tag) (b .tag) q sequence (a .out) (b .out) (a .address) (b .address) _ _ (message a .sends-it) (message b .sends-it) in
+    one-request (a .tag) (b .tag) (a .how) (b .how) q sequence (a .out) (b .out) (a .address) (b .address) _ _ (message a .sends-it) (message b .sends-it) in
     ((λ z. same .0 (sym (message a .front) ∙ z ∙ message b .front)), (λ z. message a .front ∙ same .1 z ∙ sym (message b .front)))
 
 -- a message that the other output begins with, and what follows it there, are that output

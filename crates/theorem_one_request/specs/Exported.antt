@@ -8,15 +8,17 @@ use Rattle.request_frame.specs.declared.Requestor.{Requestor}
 use Rattle.request_spec.specs.Request.{reading}
 use Rattle.link_requests.specs.declared.requests.SlcAddress.{SlcAddress}
 use Rattle.link_requests.specs.declared.requests.SlcRequest.{SlcRequest}
+use Rattle.link_requests.specs.Kinds.{readingOf}
 use Rattle.link_requests.specs.RequestRecords.{Asks}
 
 -- A call of `slc_read_request` that meets its contract and accepts its tag: the output that it is lent, as it was and as it is left, and its answer.
 pub record Exports (q : Requestor) (sequence : ℕ) : Type 0 where
   pub tag : List ℕ
+  pub how : ℕ
   pub out : List ℕ
   pub left : List ℕ
   pub answer : SlcRequest
-  pub meets : Asks (reading tag q sequence out) out answer left
+  pub meets : Asks (reading tag (readingOf how) q sequence out) out answer left
   pub accepts : answer .address .refused ≡ 0
 
 -- type, by its code, file, element, position (0 where it is missing) and count

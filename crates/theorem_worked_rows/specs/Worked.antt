@@ -1,4 +1,4 @@
--- The worked rows of document 01, W1 to W11: what the definitions give beside what the paper says.
+-- The worked rows of document 01, W1 to W11: what the definitions give beside what the paper says. Its tags are read as from a stored list (A12: "The present reading").
 use Prim.Native.Nat.{ℕ}
 use Prim.Native.String.{String}
 use mathlib.Core.Bool.{true}
@@ -10,6 +10,7 @@ use Rattle.address_spec.specs.declared.Address.{Address}
 use Rattle.address_spec.specs.declared.Parsed.{Parsed}
 use Rattle.address_spec.specs.declared.Parsed.the-variants as parsed
 use Rattle.address_spec.specs.Spelling.{addressOf, orZero}
+use Rattle.address_readings.specs.declared.Reading.the-variants.{Stored}
 use Rattle.request_frame.specs.RequestFrame.{defaultRequestor}
 use Rattle.request_spec.specs.declared.WriteValue.{WriteValue}
 use Rattle.request_spec.specs.declared.WriteValue.the-variants as value
@@ -29,10 +30,10 @@ sent from n (sends x bs) = gives (take n (drop from bs))
 
 -- "sequence 0x1234"
 abbrev reads : ℕ → ℕ → String → Result
-reads from n tag = sent from n (reading (bytes tag) defaultRequestor 0x1234 (replicate 27 0))
+reads from n tag = sent from n (reading (bytes tag) Stored defaultRequestor 0x1234 (replicate 27 0))
 
 abbrev writes : ℕ → ℕ → String → WriteValue → String → Result
-writes from n tag v text = sent from n (writing (bytes tag) v (bytes text) defaultRequestor 0x1234 (replicate 284 0))
+writes from n tag v text = sent from n (writing (bytes tag) Stored v (bytes text) defaultRequestor 0x1234 (replicate 284 0))
 
 -- type code, file, element, sub-element
 abbrev parsedAs : Parsed → Result

@@ -20,7 +20,7 @@ static lent arena[ARENAS];
 static int used;
 static unsigned long done, strays;
 static const char *call;
-static struct { const char *name; unsigned long made, refused; } tally[40], *row;
+static struct { const char *name; unsigned long made, refused; } tally[48], *row;
 
 static void calling(const char *name) {
     for (row = tally; row->name && strcmp(row->name, name); row++) {}
@@ -149,6 +149,9 @@ static const uint8_t *lend_name(size_t *n) {
     return memcpy(lend(*n), s, *n);
 }
 
+/* Mostly one of the two, now and then a number that is neither. */
+static uint8_t reading(void) { return one_in(4) ? next() >> 32 : one_in(2) ? SLC_READING_NEW : SLC_READING_STORED; }
+
 static slc_requestor requestor(void) {
     slc_requestor q;
     fill((uint8_t *)&q, sizeof q);
@@ -251,7 +254,7 @@ static void requests(void) {
     calling("slc_parse_tag");
     const uint8_t *tag = lend_tag(&n);
     sealed();
-    slc_address a = slc_parse_tag(tag, n);
+    slc_address a = slc_parse_tag(tag, n, reading());
     refused(a.refused);
     claim(a.kept <= n, "more is kept than there is");
     compared();
@@ -259,7 +262,7 @@ static void requests(void) {
     tag = lend_tag(&n);
     uint8_t *out = lend_bytes(m);
     sealed();
-    slc_request r = slc_read_request(tag, n, requestor(), next(), out, m);
+    slc_request r = slc_read_request(tag, n, reading(), requestor(), next(), out, m);
     written(1, (slc_written){r.address.refused, r.length});
     compared();
     calling("slc_write_request");
@@ -267,8 +270,17 @@ static void requests(void) {
     const uint8_t *bytes = lend_bytes(k = one_in(2) ? 4 : length_of(300));
     out = lend_bytes(m = room_of(284));
     sealed();
-    r = slc_write_request(tag, n, one_in(2) ? SLC_RAW : below(5), bytes, k, slc_default_requestor(), next(), out, m);
+    r = slc_write_request(tag, n, reading(), one_in(2) ? SLC_RAW : below(5), bytes, k, slc_default_requestor(), next(), out, m);
     written(2, (slc_written){r.address.refused, r.length});
+    compared();
+    calling("slc_dotted");
+    tag = lend_tag(&n);
+    out = lend_bytes(m = room_of(255));
+    sealed();
+    slc_written w = slc_dotted(tag, n, out, m);
+    written(1, w);
+    claim(w.length <= n, "the text is longer than the tag");
+    claim(w.refused || !slc_parse_tag(out, w.length, SLC_READING_NEW).refused, "the text is no new entry");
     compared();
     calling("slc_processor_type_request");
     out = lend_bytes(m = room_of(27));
@@ -305,7 +317,7 @@ static void replies(void) {
     calling("slc_question");
     out = lend_bytes(m);
     sealed();
-    written(0, slc_question(one_in(2) ? below(30) : next(), out, m));
+    written(0, slc_question(one_in(2) ? below(44) : next(), out, m));
     compared();
 }
 

@@ -9,8 +9,8 @@ unfolding lastForms
 last c =
     let s = c .before .before .before in
     let a = s .before .before .before in
-    try-next _ _ _ (a .before .before .before .parse-st-a .ensures) _ (a .before .enum-told2 .given .1)
-    (try-next _ _ _ (a .parse-st-a2 .ensures) _ (s .before .enum-told4 .given .1)
+    try-next _ _ _ (a .before .before .before .parse-st .ensures) _ (a .before .enum-told2 .given .1)
+    (try-next _ _ _ (a .parse-a .ensures) _ (s .before .enum-told4 .given .1)
     (try-next _ _ _ (s .parse-s .ensures) _ (c .before .enum-told6 .given .1) (c .parse-b .ensures)))
 
 pub parse-last-spec : {M : Type 1} → statement M

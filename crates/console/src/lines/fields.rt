@@ -10,12 +10,13 @@ use text::Long;
 // The fields that were read: of a number or a code its value; of a byte string where its bytes stand, and how many they are; signed numbers and
 // the bits of a float, of which a line has one or one list. `why` is 0, or
 // why the line is none of the protocol; `area` is who answers the call, `kind` a place among the call's kinds, from 1 on. The call begins at
-// `start`, and its output has `room` bytes or rows.
+// `start`, its tag is read as a new entry where `new` says so, and its output has `room` bytes or rows.
 pub struct Args {
     pub why: u8,
     pub area: Area,
     pub kind: u8,
     pub start: usize,
+    pub new: bool,
     pub room: usize,
     pub end: usize,
     pub from: [usize; 6],
@@ -31,6 +32,7 @@ pub fn fault(why: u8) -> Args {
         area: Area::None,
         kind: 0,
         start: 0,
+        new: false,
         room: 0,
         end: 0,
         from: [0; 6],
@@ -216,11 +218,18 @@ fn all(read: Args, line: &[u8], from: usize, shapes: &[u8], space: &mut [u8]) ->
     a
 }
 
-// `why`, `room` and `start` of `Args`.
-pub struct Room {
+// `why`, `new`, `room` and `start` of `Args`.
+pub struct Prefix {
     pub why: u8,
+    pub new: bool,
     pub room: usize,
     pub start: usize,
+}
+
+struct Room {
+    why: u8,
+    room: usize,
+    start: usize,
 }
 
 fn in_room(line: &[u8]) -> Room {
@@ -240,7 +249,7 @@ fn in_room(line: &[u8]) -> Room {
 }
 
 // `room ROOM CALL ..`, or CALL alone.
-pub fn room_of(line: &[u8]) -> Room {
+fn room_of(line: &[u8]) -> Room {
     if !text::is(text::field(line, 0), b"room") {
         return Room {
             why: 0,
@@ -256,6 +265,76 @@ pub fn room_of(line: &[u8]) -> Room {
         };
     }
     in_room(line)
+}
+
+// `new CALL ..`, or CALL alone: where CALL begins, or that nothing stands behind `new`.
+struct New {
+    why: u8,
+    new: bool,
+    start: usize,
+}
+
+fn new_of(line: &[u8]) -> New {
+    let new = text::is(text::field(line, 0), b"new");
+    if !new {
+        return New {
+            why: 0,
+            new,
+            start: 0,
+        };
+    }
+    if text::fields(line) < 2 {
+        return New {
+            why: crate::answers::FIELDS,
+            new,
+            start: 0,
+        };
+    }
+    New {
+        why: 0,
+        new,
+        start: 4,
+    }
+}
+
+fn within_new(line: &[u8], start: usize) -> Prefix {
+    let n = text::within(start, line);
+    let r = room_of(&line[n..]);
+    Prefix {
+        why: r.why,
+        new: true,
+        room: r.room,
+        start: sum(n, r.start),
+    }
+}
+
+fn within_room(line: &[u8], r: Room) -> Prefix {
+    let at = text::within(r.start, line);
+    let n = new_of(&line[at..]);
+    Prefix {
+        why: n.why,
+        new: n.new,
+        room: r.room,
+        start: sum(at, n.start),
+    }
+}
+
+// `new` and `room ROOM` before a call, in either order, each at most once.
+pub fn prefix_of(line: &[u8]) -> Prefix {
+    let n = new_of(line);
+    if n.why == 0 && n.new {
+        return within_new(line, n.start);
+    }
+    let r = room_of(line);
+    if n.why == 0 && r.why == 0 {
+        return within_room(line, r);
+    }
+    Prefix {
+        why: n.why | r.why,
+        new: false,
+        room: 0,
+        start: 0,
+    }
 }
 
 // The number or the code of field i.

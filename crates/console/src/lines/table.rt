@@ -1,4 +1,4 @@
-// The calls of the line protocol, in one table (`of_line`): a call's name, the shapes of its fields, and its area. A new call is a row there and an
+// The calls of the line protocol, in one table (`of_line`): a call's name, the shapes of its fields, its area, and `r` where it is told the reading of its tag. A new call is a row there and an
 // arm of its area's `answer`.
 use crate::lines::fields;
 use crate::lines::fields::Args;
@@ -36,7 +36,7 @@ fn of_letter(letter: u8) -> Area {
     }
 }
 
-// The place of the entry whose key is this word, counted from 1; 0 where there is none. An entry is KEY:SHAPES, of a call KEY:SHAPES:AREA.
+// The place of the entry whose key is this word, counted from 1; 0 where there is none. An entry is KEY:SHAPES, of a call KEY:SHAPES:AREA or KEY:SHAPES:AREA:r.
 fn place(word: &[u8], table: &[u8]) -> usize {
     let mut at = 0;
     let mut k = 0;
@@ -59,7 +59,7 @@ fn entry(table: &[u8], k: usize) -> &[u8] {
     text::field(table, k - 1)
 }
 
-// The area at an entry's end.
+// The area of a call.
 fn area_of(entry: &[u8]) -> Area {
     let letter = text::part(entry, b':', 2);
     if letter.len() == 0 {
@@ -70,26 +70,30 @@ fn area_of(entry: &[u8]) -> Area {
 
 // What a line of the protocol says.
 pub fn read(line: &[u8], space: &mut [u8]) -> Args {
-    let r = fields::room_of(line);
-    if r.why != 0 {
-        return fields::fault(r.why);
+    let p = fields::prefix_of(line);
+    if p.why != 0 {
+        return fields::fault(p.why);
     }
-    let n = text::within(r.start, line);
-    let mut a = of_line(&line[n..], space);
+    let n = text::within(p.start, line);
+    let mut a = of_line(&line[n..], p.new, space);
     a.start = n;
-    a.room = r.room;
+    a.new = p.new;
+    a.room = p.room;
     a
 }
 
 // A call and its fields. The areas: a address, t type, e element, q request, r reply, d directory, l listing, b build, p processor, x test aid.
-fn of_line(line: &[u8], space: &mut [u8]) -> Args {
+fn of_line(line: &[u8], new: bool, space: &mut [u8]) -> Args {
     let table =
-        b"tag:x:a ft:c:t simft:c:t ftname:x:t swap:x:t pairs:x:t ascii:x:t string:x:t dec:cx:e enc:cxV:e read:xqs:q proc:qs:q datalogreq:b:q dirsizereq:xqs:q dirreadreq:cnbqs:q write:xqsW:q status:x:r errtext:c:r datalogparse:x:r sys0:x:d dirsize:xx:d dir:nnx:l sim:x__:b cmd:x:p get:cnn:p set:cnnV:p directory::p fill:nx:x spoil:S:x dump::x hash::x";
+        b"tag:x:a:r dotted:x:a ft:c:t simft:c:t ftname:x:t swap:x:t pairs:x:t ascii:x:t string:x:t dec:cx:e enc:cxV:e read:xqs:q:r proc:qs:q datalogreq:b:q dirsizereq:xqs:q dirreadreq:cnbqs:q write:xqsW:q:r status:x:r errtext:c:r datalogparse:x:r sys0:x:d dirsize:xx:d dir:nnx:l sim:x__:b cmd:x:p get:cnn:p set:cnnV:p directory::p fill:nx:x spoil:S:x dump::x hash::x";
     let k = place(text::field(line, 0), table);
     if k == 0 {
         return fields::fault(crate::answers::CALL);
     }
     let e = entry(table, k);
+    if new && text::parts(e, b':') < 4 {
+        return fields::fault(crate::answers::CALL);
+    }
     in_area(area_of(e), of_call(line, text::part(e, b':', 1), space))
 }
 
@@ -102,6 +106,7 @@ fn in_area(area: Area, a: Args) -> Args {
         area,
         kind: a.kind,
         start: a.start,
+        new: a.new,
         room: a.room,
         end: a.end,
         from,

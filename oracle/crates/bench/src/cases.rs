@@ -4,19 +4,22 @@ use ciplink::Value;
 use ciplink::slc::pccc::{self, Requestor};
 use ciplink_sim::config::{FileConfig, SlcConfig};
 use ciplink_sim::slc::{Slc, access};
-use slc_link::sys::{SLC_LATIN1, SLC_RAW, SLC_TRUE};
+use slc_link::sys::{SLC_LATIN1, SLC_RAW, SLC_READING_NEW, SLC_READING_STORED, SLC_TRUE};
 use std::cell::RefCell;
 use std::hint::black_box;
 use std::rc::Rc;
+
+pub type Call = Box<dyn FnMut() -> usize>;
 
 pub struct Case {
     pub name: String,
     /// calls in a timed run
     pub n: u64,
-    pub rust: Box<dyn FnMut() -> usize>,
-    pub ours: Box<dyn FnMut() -> usize>,
+    /// the Rust, where it has such a call with this answer
+    pub rust: Option<Call>,
+    pub ours: Call,
     /// the yardstick in C, where there is one
-    pub hand: Option<Box<dyn FnMut() -> usize>>,
+    pub hand: Option<Call>,
 }
 
 const MANY: u64 = 300_000;
@@ -38,27 +41,50 @@ fn command(parameters: &str) -> Vec<u8> {
     unhex(&format!("{HEAD} {parameters}"))
 }
 
-fn parse_tag(tag: &'static str) -> Case {
+/// What stands behind the name of a case.
+fn said(reading: u8) -> &'static str {
+    if reading == SLC_READING_NEW { ", new entry" } else { "" }
+}
+
+/// The Rust has the stored reading alone: a new entry that is refused for its separator has no counterpart.
+fn parse_tag(tag: &'static str, reading: u8) -> Case {
+    let refused = ours::parse_tag(tag, reading).refused;
+    assert_eq!(pccc::parse_tag(tag).is_some(), refused != 2, "parse_tag {tag}");
+    let rust = move || pccc::parse_tag(black_box(tag)).map_or(0, |a| a.element_count);
     Case {
-        name: format!("parse_tag {tag}"),
+        name: format!("parse_tag {tag}{}", said(reading)),
         n: MANY,
-        rust: Box::new(move || pccc::parse_tag(black_box(tag)).map_or(0, |a| a.element_count)),
-        ours: Box::new(move || ours::parse_tag(black_box(tag)).element_count as usize),
+        rust: if refused == 39 { None } else { Some(Box::new(rust)) },
+        ours: Box::new(move || ours::parse_tag(black_box(tag), reading).element_count as usize),
         hand: None,
     }
 }
 
-fn read_request(tag: &'static str) -> Case {
+fn dotted(tag: &'static str, text: &str) -> Case {
+    let mut out = [0u8; 284];
+    let length = ours::dotted(tag, &mut out).length;
+    assert_eq!(text.as_bytes(), &out[..length], "dotted {tag}");
+    Case {
+        name: format!("dotted {tag}"),
+        n: MANY,
+        rust: None,
+        ours: Box::new(move || ours::dotted(black_box(tag), black_box(&mut out)).length),
+        hand: None,
+    }
+}
+
+fn read_request(tag: &'static str, reading: u8) -> Case {
     let requestor = Requestor::default();
     let mut out = [0u8; 284];
     let (_, message) = pccc::read_request(tag, &requestor, SEQUENCE).expect("a request");
-    let length = ours::read_request(tag, SEQUENCE, &mut out).length;
+    let length = ours::read_request(tag, reading, SEQUENCE, &mut out).length;
     assert_eq!(message, out[..length], "read_request {tag}");
+    let rust = move || pccc::read_request(black_box(tag), black_box(&requestor), black_box(SEQUENCE)).map_or(0, |r| r.1.len());
     Case {
-        name: format!("read_request {tag}"),
+        name: format!("read_request {tag}{}", said(reading)),
         n: MANY,
-        rust: Box::new(move || pccc::read_request(black_box(tag), black_box(&requestor), black_box(SEQUENCE)).map_or(0, |r| r.1.len())),
-        ours: Box::new(move || ours::read_request(black_box(tag), black_box(SEQUENCE), black_box(&mut out)).length),
+        rust: Some(Box::new(rust)),
+        ours: Box::new(move || ours::read_request(black_box(tag), reading, black_box(SEQUENCE), black_box(&mut out)).length),
         hand: None,
     }
 }
@@ -72,7 +98,9 @@ fn write_request(tag: &'static str, what: &str, value: Value, kind: u8, bytes: V
     Case {
         name: format!("write_request {tag} {what}"),
         n: MANY,
-        rust: Box::new(move || pccc::write_request(black_box(tag), black_box(&value), &requestor, black_box(SEQUENCE)).map_or(0, |r| r.1.len())),
+        rust: Some(Box::new(move || {
+            pccc::write_request(black_box(tag), black_box(&value), &requestor, black_box(SEQUENCE)).map_or(0, |r| r.1.len())
+        })),
         ours: Box::new(move || ours::write_request(black_box(tag), kind, black_box(&bytes), black_box(SEQUENCE), black_box(&mut out)).length),
         hand: None,
     }
@@ -99,7 +127,7 @@ fn parse_file_directory() -> Case {
     Case {
         name: "parse_file_directory 256 rows".into(),
         n: 3_000,
-        rust: Box::new(move || pccc::parse_file_directory(79, 10, black_box(&bytes)).map_or(0, |f| f.len())),
+        rust: Some(Box::new(move || pccc::parse_file_directory(79, 10, black_box(&bytes)).map_or(0, |f| f.len()))),
         ours: Box::new(move || ours::parse_file_directory(79, 10, black_box(&same), black_box(&mut out)).length),
         hand: None,
     }
@@ -139,13 +167,13 @@ impl Pair {
         Case {
             name: format!("pccc {name}, {}", self.what),
             n: if self.what.starts_with("256") { 30_000 } else { MANY },
-            rust: Box::new(move || access::pccc(&mut rust.borrow_mut(), black_box(&bytes)).map_or(0, |r| r.len())),
+            rust: Some(Box::new(move || access::pccc(&mut rust.borrow_mut(), black_box(&bytes)).map_or(0, |r| r.len()))),
             ours: Box::new(move || ours.borrow_mut().pccc(black_box(&same))),
             hand,
         }
     }
 
-    fn by_hand(&self, bytes: &[u8], reply: &[u8]) -> Box<dyn FnMut() -> usize> {
+    fn by_hand(&self, bytes: &[u8], reply: &[u8]) -> Call {
         let (ours, same) = (self.ours.clone(), bytes.to_vec());
         let length = ours.borrow_mut().by_hand(bytes);
         assert_eq!(reply, &ours.borrow().reply[..length], "by hand");
@@ -182,8 +210,11 @@ fn many_files(files: u32) -> Vec<Case> {
 
 pub fn all() -> Vec<Case> {
     let tags = ["N7:0", "T4:123PRE", "I99:3.300/5", "B3/4095", "S:1/15{18446744073709551616}", "X7:0", "ı:0", "T4:1éPRE"];
-    let mut cases: Vec<Case> = tags.map(parse_tag).into();
-    cases.extend(["N7:0", "I99:3.300/5"].map(read_request));
+    let mut cases: Vec<Case> = tags.map(|tag| parse_tag(tag, SLC_READING_STORED)).into();
+    cases.extend(["N7:0", "T4:12.PRE", "T4:123PRE"].map(|tag| parse_tag(tag, SLC_READING_NEW)));
+    cases.extend([("T4:123PRE", "T4:12.PRE"), ("N7:0", "N7:0"), ("T4:1€PRE", "T4:1.PRE")].map(|(tag, text)| dotted(tag, text)));
+    cases.extend(["N7:0", "I99:3.300/5"].map(|tag| read_request(tag, SLC_READING_STORED)));
+    cases.push(read_request("N7:0", SLC_READING_NEW));
     let raw = |n: u32| (0..n).map(|i| i as u8).collect::<Vec<u8>>();
     let six = vec![0xFF, 0xFF, 1, 2, 3, 4];
     cases.push(write_request("N7:0/3", "true", Value::Bool(true), SLC_TRUE, vec![]));

@@ -4,7 +4,7 @@
 mod cases;
 mod ours;
 
-use cases::Case;
+use cases::{Call, Case};
 use std::hint::black_box;
 use std::time::Instant;
 
@@ -27,12 +27,19 @@ fn median(n: u64, call: &mut dyn FnMut() -> usize) -> f64 {
     runs[RUNS / 2]
 }
 
+/// The nanoseconds of a side; nothing where the case hasn't it.
+fn shown(n: u64, side: &mut Option<Call>) -> String {
+    side.as_mut().map_or(String::new(), |call| format!("{:.0}", median(n, call)))
+}
+
 fn one_side(case: &mut Case, side: &str, n: u64) {
-    let call = match (side, &mut case.hand) {
-        ("rust", _) => &mut case.rust,
-        ("ours", _) => &mut case.ours,
-        (_, Some(hand)) => hand,
-        _ => return println!("{} has no {side}", case.name),
+    let call = match side {
+        "rust" => case.rust.as_mut(),
+        "ours" => Some(&mut case.ours),
+        _ => case.hand.as_mut(),
+    };
+    let Some(call) = call else {
+        return println!("{} has no {side}", case.name);
     };
     let mut sum = 0usize;
     for _ in 0..n {
@@ -53,8 +60,8 @@ fn main() {
         }
         [] => {
             for c in &mut all {
-                let hand = c.hand.as_mut().map_or(String::new(), |h| format!("{:.0}", median(c.n, h)));
-                println!("{}|{:.0}|{:.0}|{hand}", c.name, median(c.n, &mut c.rust), median(c.n, &mut c.ours));
+                let (rust, ours) = (shown(c.n, &mut c.rust), median(c.n, &mut c.ours));
+                println!("{}|{rust}|{ours:.0}|{}", c.name, shown(c.n, &mut c.hand));
             }
         }
         _ => {

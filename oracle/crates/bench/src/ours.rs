@@ -1,4 +1,5 @@
-//! The proved calls on buffers that are made once: an output of 284 bytes, a reply of 514, 256 records, 65,535 bytes of data.
+//! The proved calls on buffers that are made once: an output of 284 bytes, a reply of 514, 256 records, 65,535 bytes of data. A reading is a number,
+//! `SLC_READING_NEW` or `SLC_READING_STORED`.
 use slc_link::sys::*;
 
 type Pccc = unsafe extern "C" fn(
@@ -32,12 +33,16 @@ unsafe extern "C" {
     ) -> slc_done;
 }
 
-pub fn parse_tag(tag: &str) -> slc_address {
-    unsafe { slc_parse_tag(tag.as_ptr(), tag.len()) }
+pub fn parse_tag(tag: &str, reading: u8) -> slc_address {
+    unsafe { slc_parse_tag(tag.as_ptr(), tag.len(), reading) }
 }
 
-pub fn read_request(tag: &str, sequence: u16, out: &mut [u8]) -> slc_request {
-    unsafe { slc_read_request(tag.as_ptr(), tag.len(), slc_default_requestor(), sequence, out.as_mut_ptr(), out.len()) }
+pub fn dotted(tag: &str, out: &mut [u8]) -> slc_written {
+    unsafe { slc_dotted(tag.as_ptr(), tag.len(), out.as_mut_ptr(), out.len()) }
+}
+
+pub fn read_request(tag: &str, reading: u8, sequence: u16, out: &mut [u8]) -> slc_request {
+    unsafe { slc_read_request(tag.as_ptr(), tag.len(), reading, slc_default_requestor(), sequence, out.as_mut_ptr(), out.len()) }
 }
 
 pub fn write_request(tag: &str, kind: u8, bytes: &[u8], sequence: u16, out: &mut [u8]) -> slc_request {
@@ -45,6 +50,7 @@ pub fn write_request(tag: &str, kind: u8, bytes: &[u8], sequence: u16, out: &mut
         slc_write_request(
             tag.as_ptr(),
             tag.len(),
+            SLC_READING_STORED,
             kind,
             bytes.as_ptr(),
             bytes.len(),

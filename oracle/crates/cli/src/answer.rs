@@ -1,7 +1,7 @@
 //! The answers. Every answer about bytes comes from the unchanged original; here stand only the questions that
-//! document 01 marks as added (1 as document 02's A2 has it), and the numbers of the original's errors.
+//! document 01 marks as added (1 as document 02's A2 has it), what A12 adds over it, and the numbers of the original's errors.
 use crate::hex::hex;
-use crate::protocol::{Call, ElementValue, File, WriteValue, parse};
+use crate::protocol::{Call, ElementValue, File, Tag, WriteValue, parse};
 use ciplink::slc::pccc::{self, Address, FileType, Requestor};
 use ciplink::{Error, Value};
 use ciplink_sim::config::{FileConfig, SlcConfig};
@@ -93,6 +93,7 @@ impl Oracle {
     fn call(&mut self, call: Call) -> Answer {
         match call {
             Call::Tag(tag) => self.tag(tag),
+            Call::Dotted(bytes) => self.dotted(bytes),
             Call::Read(tag, req, seq) => self.read(tag, &req, seq),
             Call::Write(tag, req, seq, value) => self.write(tag, &req, seq, &value),
             Call::WritableValue(tag, value) => self.writable_value(tag, &value),
@@ -218,6 +219,7 @@ impl Oracle {
             | Call::DirectorySizeRequest(..)
             | Call::DirectoryReadRequest(..) => 27,
             Call::Write(..) => 284,
+            Call::Dotted(..) => 255,
             Call::Status(..) | Call::ErrorText(..) => 96,
             _ => 0,
         };
@@ -239,20 +241,32 @@ impl Oracle {
         }
     }
 
-    /// Questions 1 and 2. In raw mode a tag is UTF-8 of any length.
-    fn address(&self, tag: Vec<u8>) -> Result<(String, Address), String> {
-        if !self.raw && (tag.len() > 255 || std::str::from_utf8(&tag).is_err()) {
+    /// Questions 1 and 2, then 39 of a new entry. In raw mode a tag is UTF-8 of any length, and the Rust has one reading.
+    fn address(&self, tag: Tag) -> Result<(String, Address), String> {
+        let Tag { bytes, new } = tag;
+        if !self.raw && (bytes.len() > 255 || std::str::from_utf8(&bytes).is_err()) {
             return Err(refused(1));
         }
-        let tag = utf8(tag)?;
-        match pccc::parse_tag(&tag) {
-            Some(a) => Ok((tag, a)),
-            None if self.raw => Err("none".into()),
-            None => Err(refused(2)),
+        let text = utf8(bytes)?;
+        let Some(a) = pccc::parse_tag(&text) else {
+            return Err(if self.raw { "none".into() } else { refused(2) });
+        };
+        if !self.raw && new && cut(&text, &a)?.is_some_and(|c| !matches!(c.separator, '.' | '/')) {
+            return Err(refused(39));
+        }
+        Ok((text, a))
+    }
+
+    /// The text of a tag of a stored list.
+    fn dotted(&self, bytes: Vec<u8>) -> Answer {
+        let (text, a) = self.address(Tag { bytes, new: false })?;
+        match cut(&text, &a)? {
+            Some(Cut { before, name, .. }) => ok(format!("{before}.{name}").as_bytes()),
+            None => ok(text.as_bytes()),
         }
     }
 
-    fn tag(&self, tag: Vec<u8>) -> Answer {
+    fn tag(&self, tag: Tag) -> Answer {
         let (_, a) = self.address(tag)?;
         let opt = |v: Option<u16>| v.map_or("-".to_string(), |v| v.to_string());
         Ok(format!(
@@ -268,12 +282,12 @@ impl Oracle {
         ))
     }
 
-    pub fn read(&self, tag: Vec<u8>, req: &Requestor, seq: u16) -> Answer {
+    pub fn read(&self, tag: Tag, req: &Requestor, seq: u16) -> Answer {
         let (tag, a) = self.address(tag)?;
         self.built(&a, pccc::read_request(&tag, req, seq))
     }
 
-    fn write(&self, tag: Vec<u8>, req: &Requestor, seq: u16, value: &WriteValue) -> Answer {
+    fn write(&self, tag: Tag, req: &Requestor, seq: u16, value: &WriteValue) -> Answer {
         let (tag, a) = self.address(tag)?;
         if !self.raw && a.bit && a.element_count > 1 {
             return Err(refused(3));
@@ -297,7 +311,7 @@ impl Oracle {
         }
     }
 
-    fn writable_value(&self, tag: Vec<u8>, value: &WriteValue) -> Answer {
+    fn writable_value(&self, tag: Tag, value: &WriteValue) -> Answer {
         let (_, a) = self.address(tag)?;
         match pccc::writeable_value(&a, &value_of(value)) {
             Ok(bytes) => ok(&bytes),
@@ -336,7 +350,7 @@ impl Oracle {
         }
     }
 
-    fn reply(&self, tag: Vec<u8>, data: &[u8]) -> Answer {
+    fn reply(&self, tag: Tag, data: &[u8]) -> Answer {
         let (_, a) = self.address(tag)?;
         match pccc::parse_read_reply(&a, data) {
             Ok(v) => {
@@ -488,6 +502,38 @@ impl Oracle {
             }
         }
     }
+}
+
+/// The text of a timer's or counter's address around its separator.
+struct Cut<'a> {
+    before: &'a str,
+    separator: char,
+    name: &'a str,
+}
+
+/// Where the separator of an accepted address stands; None for the other types. The Rust takes nothing behind the name of a timer or counter, a count
+/// neither, so a name ends the text. No name ends another one, so it is one alone, and the separator is the character before it. What stands before
+/// that has to be the element that the Rust read: it may have cut the digits elsewhere otherwise.
+fn cut<'a>(text: &'a str, a: &Address) -> Result<Option<Cut<'a>>, String> {
+    const NAMES: [&str; 10] = ["PRE", "ACC", "EN", "TT", "DN", "CU", "CD", "OV", "UN", "UA"];
+    if !matches!(a.file_type, FileType::C | FileType::T) {
+        return Ok(None);
+    }
+    let ended_by = |end: &str| {
+        let (front, name) = text.split_at_checked(text.len().checked_sub(end.len())?)?;
+        let mut front = front.chars();
+        let separator = front.next_back()?;
+        let before = front.as_str();
+        let element: u16 = before.split_once(':')?.1.parse().ok()?;
+        let found = name.eq_ignore_ascii_case(end) && a.element_number == element;
+        found.then_some(Cut {
+            before,
+            separator,
+            name,
+        })
+    };
+    let cut = NAMES.into_iter().find_map(ended_by);
+    cut.map(Some).ok_or("err internal separator".into())
 }
 
 fn shown_type(t: Option<FileType>) -> String {

@@ -2,11 +2,13 @@
 //!
 //! `oracle`        document 01's view: its added questions are asked (1 as document 02's A2 has it), refusals are its numbers
 //! `oracle --raw`  the Rust's view: no added question, the Rust's own errors
-//! `oracle tags`   the program `tags` of document 01 (lines are tags; read request or `refused n`)
-//! `oracle short N [ALPHABET]`  all accepted tags of at most N bytes, of those below 128 or of ALPHABET's (document 02's A13), in hexadecimal
+//! `oracle tags`   the program `tags` of document 01 (lines are tags; read request or `refused n`); lines are new entries (document 02's A12)
+//! `oracle tags stored`  the same of a stored list's lines, as before A12
+//! `oracle short N [ALPHABET]`  all tags of at most N bytes that the stored reading accepts, of those below 128 or of ALPHABET's (document 02's A13), in hexadecimal
 use ciplink::slc::pccc::{self, Requestor};
 use oracle::answer::Oracle;
 use oracle::hex::hex;
+use oracle::protocol::Tag;
 use std::io::{self, BufRead, BufReader, BufWriter, Write};
 use std::process::ExitCode;
 
@@ -31,12 +33,16 @@ fn each_line(mut answer: impl FnMut(&[u8]) -> Vec<u8>) -> io::Result<()> {
     }
 }
 
-fn tags() -> io::Result<()> {
+/// `new`: the lines are new entries, else those of a stored list.
+fn tags(new: bool) -> io::Result<()> {
     let oracle = Oracle::new(false);
     let requestor = Requestor::default();
-    each_line(|tag| match oracle.read(tag.to_vec(), &requestor, 0) {
-        Ok(answer) => answer.trim_start_matches("ok ").into(),
-        Err(answer) => answer.into(),
+    each_line(|line| {
+        let bytes = line.to_vec();
+        match oracle.read(Tag { bytes, new }, &requestor, 0) {
+            Ok(answer) => answer.trim_start_matches("ok ").into(),
+            Err(answer) => answer.into(),
+        }
     })
 }
 
@@ -78,7 +84,8 @@ fn main() -> ExitCode {
             let mut oracle = Oracle::new(!args.is_empty());
             each_line(|line| oracle.line(line))
         }
-        ["tags"] => tags(),
+        ["tags"] => tags(true),
+        ["tags", "stored"] => tags(false),
         ["short", max] if max.parse::<usize>().is_ok() => {
             short(max.parse().unwrap_or(0), &Vec::from_iter(0..128))
         }
@@ -89,7 +96,7 @@ fn main() -> ExitCode {
             short(max.parse().unwrap_or(0), &bytes)
         }
         _ => {
-            eprintln!("usage: oracle [--raw | tags | short N [ALPHABET]]");
+            eprintln!("usage: oracle [--raw | tags [stored] | short N [ALPHABET]]");
             return ExitCode::from(2);
         }
     };

@@ -30,6 +30,13 @@ impl Why {
     }
 }
 
+/// A tag, and whether it is read as a new entry or as one of a stored list (A12 of document 02).
+#[derive(Clone, Debug)]
+pub struct Tag {
+    pub bytes: Vec<u8>,
+    pub new: bool,
+}
+
 /// The value of `write` and `wvalue`.
 #[derive(Clone, Debug)]
 pub enum WriteValue {
@@ -62,10 +69,11 @@ pub struct File {
 /// A line whose fields all have their shape, in the order of the line.
 #[derive(Clone, Debug)]
 pub enum Call {
-    Tag(Vec<u8>),
-    Read(Vec<u8>, Requestor, u16),
-    Write(Vec<u8>, Requestor, u16, WriteValue),
-    WritableValue(Vec<u8>, WriteValue),
+    Tag(Tag),
+    Dotted(Vec<u8>),
+    Read(Tag, Requestor, u16),
+    Write(Tag, Requestor, u16, WriteValue),
+    WritableValue(Tag, WriteValue),
     Processor(Requestor, u16),
     DatalogRequest(u8),
     Sys0(Vec<u8>),
@@ -76,7 +84,7 @@ pub enum Call {
     Status(Vec<u8>),
     ErrorText(u8),
     ParseDatalog(Vec<u8>),
-    Reply(Vec<u8>, Vec<u8>),
+    Reply(Tag, Vec<u8>),
     FileType(u8),
     FileTypeName(Vec<u8>),
     SimFileType(u8),
@@ -144,10 +152,11 @@ type Reader = fn(&mut Fields) -> Result<Call, Why>;
 /// Every call: its word, its number of fields, and how they are read.
 #[rustfmt::skip]
 pub const CALLS: &[(&str, Count, Reader)] = &[
-    ("tag", Of(2), |f| Ok(Call::Tag(f.bytes()?))),
-    ("read", Of(4), |f| Ok(Call::Read(f.bytes()?, f.req()?, f.seq()?))),
-    ("write", Kind(4, WRITE_KINDS), |f| Ok(Call::Write(f.bytes()?, f.req()?, f.seq()?, f.write_value()?))),
-    ("wvalue", Kind(2, VALUE_KINDS), |f| Ok(Call::WritableValue(f.bytes()?, f.write_value()?))),
+    ("tag", Of(2), |f| Ok(Call::Tag(f.tag()?))),
+    ("dotted", Of(2), |f| Ok(Call::Dotted(f.bytes()?))),
+    ("read", Of(4), |f| Ok(Call::Read(f.tag()?, f.req()?, f.seq()?))),
+    ("write", Kind(4, WRITE_KINDS), |f| Ok(Call::Write(f.tag()?, f.req()?, f.seq()?, f.write_value()?))),
+    ("wvalue", Kind(2, VALUE_KINDS), |f| Ok(Call::WritableValue(f.tag()?, f.write_value()?))),
     ("proc", Of(3), |f| Ok(Call::Processor(f.req()?, f.seq()?))),
     ("datalogreq", Of(2), |f| Ok(Call::DatalogRequest(f.byte()?))),
     ("sys0", Of(2), |f| Ok(Call::Sys0(f.bytes()?))),
@@ -158,7 +167,7 @@ pub const CALLS: &[(&str, Count, Reader)] = &[
     ("status", Of(2), |f| Ok(Call::Status(f.bytes()?))),
     ("errtext", Of(2), |f| Ok(Call::ErrorText(f.code()?))),
     ("datalogparse", Of(2), |f| Ok(Call::ParseDatalog(f.bytes()?))),
-    ("reply", Of(3), |f| Ok(Call::Reply(f.bytes()?, f.bytes()?))),
+    ("reply", Of(3), |f| Ok(Call::Reply(f.tag()?, f.bytes()?))),
     ("ft", Of(2), |f| Ok(Call::FileType(f.code()?))),
     ("ftname", Of(2), |f| Ok(Call::FileTypeName(f.bytes()?))),
     ("simft", Of(2), |f| Ok(Call::SimFileType(f.code()?))),
@@ -178,8 +187,12 @@ pub const CALLS: &[(&str, Count, Reader)] = &[
     ("hash", Of(1), |_| Ok(Call::Hash)),
     ("directory", Of(1), |_| Ok(Call::Directory)),
     ("spoil", Kind(1, SPOIL_KINDS), |f| f.spoil()),
-    ("room", Rest(3), |f| Ok(Call::Room(f.number()?, Box::new(f.call()?)))),
+    ("room", Rest(3), |f| Ok(Call::Room(f.number()?, Box::new(f.call("room")?)))),
+    ("new", Rest(2), |f| f.call("new")),
 ];
+
+/// The calls that are told the reading of their tag: those that `new` may stand before. `dotted` names its reading itself.
+pub const TOLD: &[&str] = &["tag", "read", "write", "wvalue", "reply"];
 
 /// The number of fields and the reader of a call, None for a word that is no call.
 pub fn call(word: &[u8]) -> Option<&'static (&'static str, Count, Reader)> {
@@ -199,11 +212,44 @@ pub fn parse(line: &[u8]) -> Result<Option<Call>, Why> {
     if line.is_empty() || line[0] == b'#' {
         return Ok(None);
     }
-    parse_fields(&split(line)).map(Some)
+    parse_fields(&split(line), &[]).map(Some)
 }
 
-fn parse_fields(fields: &[&[u8]]) -> Result<Call, Why> {
-    let (_, count, read) = call(fields[0]).ok_or(Why::Call)?;
+/// A line without `new` and `room ROOM`: which of them stand before its call, and the call's own fields, whatever their shapes.
+pub struct Bare<'a> {
+    pub new: bool,
+    pub room: bool,
+    pub fields: Vec<&'a [u8]>,
+}
+
+pub fn bare(line: &[u8]) -> Bare<'_> {
+    let (mut new, mut room) = (false, false);
+    let fields = split(line);
+    let mut left = &fields[..];
+    loop {
+        left = match left {
+            [b"new", rest @ ..] if !new && !rest.is_empty() => {
+                new = true;
+                rest
+            }
+            [b"room", _, rest @ ..] if !room && !rest.is_empty() => {
+                room = true;
+                rest
+            }
+            _ => break,
+        };
+    }
+    let fields = left.to_vec();
+    Bare { new, room, fields }
+}
+
+/// `before`: which of `new` and `room` stand before these fields. Each is taken once.
+fn parse_fields(fields: &[&[u8]], before: &[&'static str]) -> Result<Call, Why> {
+    let (name, count, read) = call(fields[0]).ok_or(Why::Call)?;
+    let told = TOLD.contains(name) || matches!(count, Rest(_));
+    if before.contains(name) || (before.contains(&"new") && !told) {
+        return Err(Why::Call);
+    }
     let expected = match *count {
         Of(n) => n,
         Kind(at, kinds) => {
@@ -216,12 +262,14 @@ fn parse_fields(fields: &[&[u8]]) -> Result<Call, Why> {
     if fields.len() != expected {
         return Err(Why::Fields);
     }
-    read(&mut Fields { left: &fields[1..] })
+    let left = &fields[1..];
+    read(&mut Fields { left, before })
 }
 
 /// The fields that are still to be read; their number is already right.
 pub struct Fields<'a> {
     left: &'a [&'a [u8]],
+    before: &'a [&'static str],
 }
 
 impl<'a> Fields<'a> {
@@ -230,12 +278,14 @@ impl<'a> Fields<'a> {
         self.left = rest;
         first
     }
-    /// The call that stands behind `room` and its number.
-    fn call(&mut self) -> Result<Call, Why> {
-        match self.left[0] {
-            b"room" => Err(Why::Call),
-            _ => parse_fields(self.left),
-        }
+    /// The call that stands behind this word and what belongs to it.
+    fn call(&mut self, word: &'static str) -> Result<Call, Why> {
+        parse_fields(self.left, &[self.before, &[word]].concat())
+    }
+    fn tag(&mut self) -> Result<Tag, Why> {
+        let new = self.before.contains(&"new");
+        let bytes = self.bytes()?;
+        Ok(Tag { bytes, new })
     }
     fn bytes(&mut self) -> Result<Vec<u8>, Why> {
         match self.next() {

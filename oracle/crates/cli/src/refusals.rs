@@ -1,9 +1,14 @@
 //! What each call can be refused with: the last column of PROTOCOL.md's table of calls. It stands in the code only here.
+use crate::protocol::TOLD;
+
+/// The number that `new` before a call adds.
+const RETIRED: u32 = 39;
 
 /// A call, the numbers that it can be refused with, and the one that `room` before it adds (0 for a call without an output).
 #[rustfmt::skip]
 pub const REFUSED: &[(&str, &[u32], u32)] = &[
     ("tag", &[1, 2], 0),
+    ("dotted", &[1, 2], 6),
     ("read", &[1, 2, 3, 5], 6),
     ("write", &[1, 2, 3, 4, 5], 6),
     ("wvalue", &[1, 2, 4], 0),
@@ -43,19 +48,24 @@ pub const NOT_GENERATED: &[(&str, &str)] = &[
     ),
 ];
 
-/// The numbers of a call, or of `room` and a call; None where nothing is listed.
+/// The numbers of a call, also behind `room`, `new` or `room new`; None where nothing is listed.
 pub fn numbers(name: &str) -> Option<Vec<u32>> {
-    let (call, in_room) = match name.strip_prefix("room ") {
-        Some(call) => (call, true),
-        None => (name, false),
-    };
-    let (_, own, added) = REFUSED.iter().find(|r| r.0 == call)?;
+    let (in_room, name) = cut(name, "room ");
+    let (new, name) = cut(name, "new ");
+    let (_, own, added) = REFUSED.iter().find(|r| r.0 == name)?;
     let mut list = own.to_vec();
-    if in_room {
-        list.push(*added);
-        list.sort_unstable();
-    }
+    list.extend(in_room.then_some(*added));
+    list.extend(new.then_some(RETIRED));
+    list.sort_unstable();
     Some(list)
+}
+
+/// Does the text begin with this? What is behind it.
+fn cut<'a>(text: &'a str, begin: &str) -> (bool, &'a str) {
+    match text.strip_prefix(begin) {
+        Some(rest) => (true, rest),
+        None => (false, text),
+    }
 }
 
 /// Does `room` before the call have an effect?
@@ -66,11 +76,14 @@ pub fn has_output(call: &str) -> bool {
 /// Every name that `numbers` knows and the generator writes.
 pub fn generated() -> Vec<String> {
     let left_out = |call: &str| NOT_GENERATED.iter().any(|n| n.0 == call);
-    let calls = REFUSED.iter().filter(|r| !left_out(r.0));
-    let (own, outputs): (Vec<_>, Vec<_>) = calls
-        .map(|r| (r.0.to_string(), (r.2 > 0).then(|| format!("room {}", r.0))))
-        .unzip();
-    own.into_iter()
-        .chain(outputs.into_iter().flatten())
-        .collect()
+    let mut list = Vec::new();
+    for before in ["", "room ", "new ", "room new "] {
+        let (room, new) = (before.contains("room"), before.contains("new"));
+        let some = REFUSED
+            .iter()
+            .filter(|(call, ..)| !left_out(call))
+            .filter(|(call, ..)| (!room || has_output(call)) && (!new || TOLD.contains(call)));
+        list.extend(some.map(|(call, ..)| format!("{before}{call}")));
+    }
+    list
 }

@@ -1,7 +1,7 @@
 //! What `compare` counts, and the report that it writes.
 use crate::answer::not_asked;
 use crate::hex::unhex;
-use crate::protocol::{call, split};
+use crate::protocol::{TOLD, bare, call};
 use crate::refusals::{NOT_GENERATED, generated, has_output, numbers};
 use std::collections::{BTreeMap, BTreeSet};
 use std::fmt::Write as _;
@@ -82,17 +82,24 @@ fn is_ok(answer: &[u8]) -> bool {
     answer == b"ok" || answer.starts_with(b"ok ")
 }
 
-/// The row in which a line is counted; `room` before a call that has an output is a row of its own.
-fn row_name(line: &[u8]) -> String {
+/// The row in which a line is counted. `room` before a call that has an output, and `new` before one that is told its reading, are rows of their own.
+pub fn row_name(line: &[u8]) -> String {
     if line.is_empty() || line[0] == b'#' {
         return "(echo)".into();
     }
-    let fields = split(line);
-    let word = |at: usize| fields.get(at).and_then(|f| call(f)).map(|c| c.0);
-    match (word(0), word(2)) {
-        (Some("room"), Some(c)) if has_output(c) => format!("room {c}"),
-        (Some(c), _) => c.into(),
-        (None, _) => "(no call)".into(),
+    let line = bare(line);
+    let name = call(line.fields[0]).map(|c| c.0);
+    let told = name.is_some_and(|c| TOLD.contains(&c));
+    let output = name.is_some_and(has_output);
+    match name {
+        _ if line.new && !told => "new".into(),
+        _ if line.room && !output => "room".into(),
+        None => "(no call)".into(),
+        Some(c) => {
+            let room = if line.room { "room " } else { "" };
+            let new = if line.new { "new " } else { "" };
+            format!("{room}{new}{c}")
+        }
     }
 }
 

@@ -44,7 +44,7 @@ impl Tally {
 type Area = (&'static str, &'static str, fn(&mut Tally));
 
 const AREAS: [Area; 12] = [
-    ("short", "every text of at most 4 bytes below 128: parse_tag, and read_request where it is accepted", texts::short),
+    ("short", "every text of at most 4 bytes below 128: parse_tag in both readings; where the stored one accepts it read_request, and dotted with its text as a new entry", texts::short),
     ("signs", "every text of at most 7 of the signs N T I S 7 1 0 : . / { } P: the same", texts::signs),
     ("forms", "15 beginnings, as N7: and T4:1, with at most 5 of 19 signs behind: the same", texts::forms),
     ("letters", "8 beginnings, as ı and ſT9: and T4:1, with at most 5 of 22 signs behind, ı, ſ and é among them: the same", texts::letters),

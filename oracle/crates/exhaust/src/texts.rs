@@ -1,13 +1,34 @@
-//! Addresses and read requests.
+//! Addresses and read requests. The Rust has the stored reading alone: what is expected of the other one and of dotted texts is made of its answer, and
+//! of the separator, which is found here from the text's end.
 use crate::Tally;
 use ciplink::slc::pccc::{self, Requestor};
 use ciplink::Error;
-use slc_link::{REQUEST_ROOM, Refused};
+use slc_link::{DOTTED_ROOM, REQUEST_ROOM, Reading, Refused};
 
 const SEQUENCE: u16 = 0x1234;
+/// The codes of T and C.
+const TIMED: [u8; 2] = [0x86, 0x87];
 
 /// Code, file, element, position, sub-element, bit, count, bytes kept.
 type Fields = (u8, u16, u16, Option<u16>, Option<u16>, bool, u64, usize);
+type Answer = Result<Fields, u8>;
+
+/// What is asked of a text.
+#[derive(Debug, PartialEq)]
+struct Answers {
+    stored: Answer,
+    new: Answer,
+    /// where the stored reading accepts it
+    more: Option<More>,
+}
+
+#[derive(Debug, PartialEq)]
+struct More {
+    request: Result<Vec<u8>, u8>,
+    dotted: Result<String, u8>,
+    /// the dotted text as a new entry
+    again: Answer,
+}
 
 /// The text that the Rust takes; 1 above 255 bytes, and for what isn't UTF-8 by the standard library's own test.
 fn text_of(bytes: &[u8]) -> Result<&str, u8> {
@@ -18,7 +39,7 @@ fn text_of(bytes: &[u8]) -> Result<&str, u8> {
 }
 
 /// Document 01's 2 is the Rust's `None`.
-fn rust_address(text: &str) -> Result<Fields, u8> {
+fn rust_address(text: &str) -> Answer {
     let a = pccc::parse_tag(text).ok_or(2)?;
     Ok((
         a.file_type.code(),
@@ -32,11 +53,6 @@ fn rust_address(text: &str) -> Result<Fields, u8> {
     ))
 }
 
-fn our_address(text: &[u8]) -> Result<Fields, u8> {
-    let a = slc_link::parse_tag(text).map_err(Refused::number)?;
-    Ok((a.file_type.code(), a.file_number, a.element_number, a.position, a.sub_element, a.bit, a.element_count, a.kept))
-}
-
 /// The message, or document 01's number for the Rust's error.
 fn rust_request(text: &str, requestor: &Requestor) -> Result<Vec<u8>, u8> {
     match pccc::read_request(text, requestor, SEQUENCE) {
@@ -46,33 +62,78 @@ fn rust_request(text: &str, requestor: &Requestor) -> Result<Vec<u8>, u8> {
     }
 }
 
+/// An accepted timer or counter as what stands before its separator, that character, and its name: PRE or ACC, else two letters.
+fn cut(text: &str) -> (&str, char, &str) {
+    let three = text.len() - 3;
+    let long = text.get(three..).is_some_and(|name| ["PRE", "ACC"].iter().any(|n| n.eq_ignore_ascii_case(name)));
+    let (front, name) = text.split_at(if long { three } else { three + 1 });
+    let mut before = front.chars();
+    let separator = before.next_back().expect("a separator");
+    (before.as_str(), separator, name)
+}
+
+/// The Rust's answers, and what they come to in the new reading and with a full stop.
+fn rust_answers(text: &[u8], requestor: &Requestor) -> Answers {
+    let (text, address) = match text_of(text).and_then(|text| Ok((text, rust_address(text)?))) {
+        Ok(accepted) => accepted,
+        Err(refused) => return Answers { stored: Err(refused), new: Err(refused), more: None },
+    };
+    let (mut new, mut dotted, mut again) = (Ok(address), text.to_owned(), address);
+    if TIMED.contains(&address.0) {
+        let (before, separator, name) = cut(text);
+        if !['.', '/'].contains(&separator) {
+            new = Err(39);
+        }
+        dotted = format!("{before}.{name}");
+        // all of it is kept
+        again.7 = dotted.len();
+    }
+    let request = rust_request(text, requestor);
+    Answers { stored: Ok(address), new, more: Some(More { request, dotted: Ok(dotted), again: Ok(again) }) }
+}
+
+fn our_address(text: &[u8], reading: Reading) -> Answer {
+    let a = slc_link::parse_tag(text, reading).map_err(Refused::number)?;
+    Ok((a.file_type.code(), a.file_number, a.element_number, a.position, a.sub_element, a.bit, a.element_count, a.kept))
+}
+
 fn our_request(text: &[u8]) -> Result<Vec<u8>, u8> {
     let mut out = [0; REQUEST_ROOM];
-    match slc_link::read_request(text, slc_link::Requestor::default(), SEQUENCE, &mut out) {
+    match slc_link::read_request(text, Reading::Stored, slc_link::Requestor::default(), SEQUENCE, &mut out) {
         Ok(request) => Ok(request.message.to_vec()),
         Err(refused) => Err(refused.number()),
     }
 }
 
-/// Texts that `--faults` answers with 2, one of them in each area.
-const SPOILT: [&[u8]; 4] = [b"N7:1", "ı9:0".as_bytes(), b"T4:1\xED\xA0\x80PRE", "ı:0{000001}".as_bytes()];
+fn our_more(text: &[u8]) -> More {
+    let mut out = [0; DOTTED_ROOM];
+    let dotted = slc_link::dotted(text, &mut out).map(String::from).map_err(Refused::number);
+    let again = our_address(dotted.as_deref().unwrap_or("").as_bytes(), Reading::New);
+    More { request: our_request(text), dotted, again }
+}
+
+fn our_answers(text: &[u8]) -> Answers {
+    let stored = our_address(text, Reading::Stored);
+    Answers { new: our_address(text, Reading::New), more: stored.ok().map(|_| our_more(text)), stored }
+}
+
+/// Answers that `--faults` makes wrong, one of them in each area.
+fn spoil(text: &[u8], ours: &mut Answers) {
+    match text {
+        b"N7:1" | b"T4:1\xED\xA0\x80PRE" => ours.stored = Err(2),
+        // ı
+        b"\xC4\xB19:0" => ours.new = Err(39),
+        b"\xC4\xB1:0{000001}" => ours.more.iter_mut().for_each(|more| more.dotted = Ok("ı:0".into())),
+        _ => {}
+    }
+}
 
 fn one(t: &mut Tally, text: &[u8], requestor: &Requestor) {
-    let spelled = text_of(text);
-    let rust = spelled.and_then(rust_address);
-    let mut ours = our_address(text);
-    if t.spoilt && SPOILT.contains(&text) {
-        ours = Err(2);
+    let (rust, mut ours) = (rust_answers(text, requestor), our_answers(text));
+    if t.spoilt {
+        spoil(text, &mut ours);
     }
-    let accepted = rust.is_ok();
-    t.compare(text, accepted, rust, ours);
-    if let (Ok(spelled), true, false) = (spelled, accepted, t.spoilt) {
-        let (rust, ours) = (rust_request(spelled, requestor), our_request(text));
-        if rust != ours {
-            t.differences += 1;
-            println!("  {text:02X?}: the Rust's message {rust:02X?}, ours {ours:02X?}");
-        }
-    }
+    t.compare(text, rust.stored.is_ok(), rust, ours);
 }
 
 /// The characters of a text, each as its bytes.

@@ -3,7 +3,7 @@ use super::{Lines, any_hex, text_or_none, then_random, utf8};
 use crate::hex::hex;
 use crate::rng::Rng;
 
-const NAMES: &[&str] = &["PRE", "ACC", "EN", "TT", "DN", "CU", "CD", "OV", "UN", "UA"];
+pub(super) const NAMES: &[&str] = &["PRE", "ACC", "EN", "TT", "DN", "CU", "CD", "OV", "UN", "UA"];
 /// Texts that settle a rule of document 01's "Address spelling", and its worked rows.
 pub(super) const SETTLED: &[&str] = &[
     "",
@@ -132,7 +132,7 @@ fn random(rng: &mut Rng) -> String {
 }
 
 /// Digits of a number up to `last` or near the ends of the ranges, sometimes with zeros before it.
-fn digits(rng: &mut Rng, last: usize, ends: &[u64]) -> String {
+pub(super) fn digits(rng: &mut Rng, last: usize, ends: &[u64]) -> String {
     let n = match rng.below(4) {
         0 => rng.below(260) as u64,
         1 => rng.pick(ends),

@@ -4,6 +4,7 @@ mod codec;
 mod directory;
 mod file_type;
 mod processor;
+mod reading;
 mod reply;
 mod request;
 mod room;
@@ -11,6 +12,7 @@ mod syntax;
 mod utf8;
 
 use crate::hex::hex;
+use crate::protocol::TOLD;
 use crate::rng::Rng;
 
 /// Lines without their newlines. An area's lines never end: small cases in order first, then random ones.
@@ -27,6 +29,7 @@ const AREAS: &[Area] = &[
     Area { name: "file_type", calls: &["ft", "ftname", "simft"], lines: file_type::lines },
     Area { name: "address", calls: &["tag"], lines: address::lines },
     Area { name: "request", calls: &["read", "write", "proc", "datalogreq", "dirsizereq", "dirreadreq", "room"], lines: request::lines },
+    Area { name: "reading", calls: &["tag", "dotted", "read", "write", NEW, "room"], lines: reading::lines },
     Area { name: "processor", calls: &["sim", "cmd", "get", "set", "fill", "dump", "hash", "directory"], lines: processor::lines },
     Area { name: "codec", calls: &["swap", "pairs", "ascii", "string", "enc", "dec"], lines: codec::lines },
     Area { name: "reply", calls: &["status", "errtext", "datalogparse"], lines: reply::lines },
@@ -36,6 +39,9 @@ const AREAS: &[Area] = &[
 
 /// The area of calls behind `room`.
 const ROOM: &str = "room";
+
+/// The word before a call whose tag is a new entry.
+const NEW: &str = "new";
 
 /// The area of damaged lines. It damages what the other areas write, so a call that is not yet ported is never in it.
 const SYNTAX: &str = "syntax";
@@ -51,11 +57,18 @@ pub fn sampled() -> Vec<String> {
     others.map(String::from).collect()
 }
 
-/// The calls of these areas, without `room`, which is a word before a call.
-pub fn calls() -> Vec<&'static str> {
-    let areas = AREAS.iter().filter(|a| a.name != ROOM);
-    let calls = areas.flat_map(|a| a.calls).copied();
-    calls.filter(|&call| call != ROOM).collect()
+/// The calls of these areas, without `room` and `new`, which are words before a call; also those that `new` stands before.
+pub fn calls() -> Vec<String> {
+    let mut list = Vec::new();
+    for area in AREAS.iter().filter(|a| a.name != ROOM) {
+        let own = || area.calls.iter().filter(|&&c| c != ROOM && c != NEW);
+        list.extend(own().map(|c| c.to_string()));
+        if area.calls.contains(&NEW) {
+            let told = own().filter(|&c| TOLD.contains(c));
+            list.extend(told.map(|c| format!("{NEW} {c}")));
+        }
+    }
+    list
 }
 
 /// One line of each area in turn; all areas where none is named. None for an unknown name.
@@ -109,8 +122,12 @@ fn in_turn(mut parts: Vec<Lines>) -> Lines {
 
 /// Lines that settle a rule each: all of them are in the stored sample.
 pub fn settled() -> Vec<Vec<u8>> {
-    let lines = address::settled().into_iter().chain(request::settled());
-    lines.map(String::into_bytes).collect()
+    let lines = [address::settled(), request::settled(), reading::settled()];
+    lines
+        .into_iter()
+        .flatten()
+        .map(String::into_bytes)
+        .collect()
 }
 
 /// A byte string.

@@ -4,7 +4,7 @@ use super::{Lines, any_hex, text_or_none, then_random, utf8};
 use crate::rng::Rng;
 
 /// The default requester.
-const REQ: &str = "091009101971";
+pub(super) const REQ: &str = "091009101971";
 /// Writes that settle a rule: tag, kind and value.
 const WRITES: &[(&str, &str)] = &[
     ("N7:0/3", "bool 1"),
@@ -274,7 +274,7 @@ fn any_tag(rng: &mut Rng) -> String {
     any_hex_or_none(rng, &text)
 }
 
-fn asker(rng: &mut Rng) -> String {
+pub(super) fn asker(rng: &mut Rng) -> String {
     let req = match rng.below(3) {
         0 => REQ.to_string(),
         _ => {
@@ -289,7 +289,7 @@ fn asker(rng: &mut Rng) -> String {
     format!("{req} {sequence}")
 }
 
-fn value(rng: &mut Rng) -> String {
+pub(super) fn value(rng: &mut Rng) -> String {
     match rng.below(4) {
         0 | 1 => format!("bool {}", rng.below(2)),
         2 => {

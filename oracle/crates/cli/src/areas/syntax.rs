@@ -1,6 +1,6 @@
 //! Damaged lines: what the other areas write, with words, fields, blanks or bytes that don't belong there.
 use super::Lines;
-use crate::protocol::{CALLS, Count, LONGEST, call, parse, split};
+use crate::protocol::{CALLS, Count, LONGEST, bare, call, parse, split};
 use crate::rng::Rng;
 
 /// Fields that are wrong in most places: empty, signs, digits too few and too many, numbers past a bound, letters
@@ -141,12 +141,21 @@ fn may_stand(calls: Vec<&'static str>) -> impl Fn(&[u8]) -> bool {
     }
 }
 
+/// In place of a kind: `new` and `room` both stand before a call.
+const BOTH: &[u8] = b"new and room";
+
 /// A whole line of each call, and of each of its kinds.
 fn samples(calls: &[&str], whole: &mut Lines) -> Vec<Vec<u8>> {
     let mut wanted: Vec<(&[u8], &[u8])> = Vec::new();
     for (name, count, _) in CALLS.iter().filter(|c| calls.contains(&c.0)) {
         match count {
-            Count::Of(_) | Count::Rest(_) => wanted.push((name.as_bytes(), b"")),
+            Count::Of(_) => wanted.push((name.as_bytes(), b"")),
+            Count::Rest(_) => {
+                wanted.push((name.as_bytes(), b""));
+                if ["new", "room"].iter().all(|w| calls.contains(w)) {
+                    wanted.push((name.as_bytes(), BOTH));
+                }
+            }
             Count::Kind(_, kinds) => {
                 wanted.extend(kinds.iter().map(|k| (name.as_bytes(), k.0.as_bytes())));
             }
@@ -157,9 +166,10 @@ fn samples(calls: &[&str], whole: &mut Lines) -> Vec<Vec<u8>> {
         if wanted.is_empty() {
             break;
         }
-        let fields = split(&line);
+        let (fields, before) = (split(&line), bare(&line));
         let kind: &[u8] = match call(fields[0]) {
             Some((_, Count::Kind(at, _), _)) => fields.get(*at).copied().unwrap_or_default(),
+            Some(_) if before.new && before.room => BOTH,
             _ => b"",
         };
         let here = wanted.iter().position(|w| *w == (fields[0], kind));

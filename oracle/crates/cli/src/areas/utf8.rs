@@ -223,13 +223,13 @@ pub(super) fn tags() -> Vec<Vec<u8>> {
 }
 
 /// Ends of the rows of the UTF-8 table, the two letters, and line ends of other texts.
-const ENDS: &[u32] = &[
+pub(super) const ENDS: &[u32] = &[
     0x80, 0x7FF, 0x800, 0xFFF, 0x1000, 0xCFFF, 0xD000, 0xD7FF, 0xE000, 0xFFFF, 0x10000, 0x3FFFF,
     0x40000, 0xFFFFF, 0x100000, 0x10FFFF, 0x131, 0x17F, 0x85, 0x2028,
 ];
 
 /// Characters that look like a sign of a tag, or share bytes with ı and ſ.
-const ALIKE: &[char] = &[
+pub(super) const ALIKE: &[char] = &[
     'ı', 'ſ', 'İ', 'і', 'Ι', 'Ｉ', 'ş', 'ß', 'ẛ', 'ﬅ', 'Ѕ', 'ŧ', 'Т', 'С', 'А', 'В', 'О', 'Е', 'Ν',
     '\u{212A}', '\u{212B}', '²', '０', '１', '７', '٣', '：', '／', '．', '｛', '｝', '⁄',
     '\u{301}', '\u{307}', '\u{A0}', '\u{FEFF}', 'ñ', 'ű', 'Ŀ', 'ƿ', 'é', '€', '😀',

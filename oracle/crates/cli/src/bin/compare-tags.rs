@@ -1,10 +1,11 @@
-//! `compare-tags SEED N`: N lines of tags, answered by `oracle tags` and by our program `tags`, compared line by line.
+//! `compare-tags SEED N`: N lines of tags, read as new entries by `oracle tags` and by our program `tags`, compared line by line.
 //!
 //! The program is the shell command in TAGS. Each batch of lines goes to fresh programs, and each cuts its input into
 //! pieces of other sizes: a pipe in packet mode hands over one piece a read. Every other batch lacks its last newline.
 //! Exit status: 0 no difference, 1 some, 2 not run.
 use oracle::areas;
 use oracle::hex::unhex;
+use oracle::protocol::bare;
 use oracle::rng::Rng;
 use std::collections::BTreeMap;
 use std::io::{self, PipeWriter, Read, Write};
@@ -99,8 +100,14 @@ fn repeated(unit: &[u8], n: usize) -> Vec<u8> {
     unit.iter().copied().cycle().take(n).collect()
 }
 
+/// The tags of the generator's lines, whichever call they have.
+fn tags(seed: u64) -> Option<impl Iterator<Item = Vec<u8>>> {
+    let lines = areas::lines(seed, &["address".into(), "reading".into()])?;
+    Some(lines.filter_map(|line| unhex(bare(&line).fields.get(1)?)))
+}
+
 /// Any line: the generator's tags (also with a newline in them), and now and then any bytes, none or very many.
-fn line(rng: &mut Rng, tags: &mut areas::Lines) -> Vec<u8> {
+fn line(rng: &mut Rng, tags: &mut impl Iterator<Item = Vec<u8>>) -> Vec<u8> {
     match rng.below(2000) {
         0 => {
             let n = rng.pick(&[300, 4094, 4095, 4096, 4097, 65535, 65536, 70000]) + rng.below(3);
@@ -119,13 +126,7 @@ fn line(rng: &mut Rng, tags: &mut areas::Lines) -> Vec<u8> {
             let n = 248 + rng.below(13);
             repeated(rng.pick(UNITS), n)
         }
-        _ => {
-            let call = tags.next().expect("the areas never end");
-            let tag = call
-                .strip_prefix(b"tag ")
-                .expect("the area has no other call");
-            unhex(tag).unwrap_or_default()
-        }
+        _ => tags.next().expect("the areas never end"),
     }
 }
 
@@ -215,7 +216,7 @@ impl Report {
 
 fn run(seed: u64, n: usize, ours: &str) -> Result<Report, String> {
     let mut rng = Rng::new(seed, "tags");
-    let mut tags = areas::lines(seed, &["address".into()]).ok_or("there is no area address")?;
+    let mut tags = tags(seed).ok_or("there is no area address or reading")?;
     let here = std::env::current_exe().map_err(|e| e.to_string())?;
     let mut report = Report::default();
     for (k, from) in (0..n).step_by(BATCH).enumerate() {

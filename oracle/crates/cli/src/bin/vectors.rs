@@ -6,13 +6,14 @@
 //! one of these, it must give the same answer.
 use oracle::answer::{Oracle, not_asked};
 use oracle::areas;
-use oracle::protocol::{Count, call, split};
+use oracle::protocol::{Bare, Count, bare, call, split};
+use oracle::report::row_name;
 use oracle::rng::Rng;
 use std::collections::{BTreeMap, BTreeSet};
 use std::process::ExitCode;
 
 /// Bytes of both files, and of a request with its answer.
-const ROOM: usize = 142_000;
+const ROOM: usize = 185_000;
 const SHORT: usize = 999;
 /// So many longer ones, up to this size, are taken as well.
 const LONGER: (usize, usize) = (2, 3_000);
@@ -45,28 +46,29 @@ const BY_CODE: &[&str] = &["ft", "simft", "errtext"];
 const NONE: &[u8] = b"ok none";
 
 /// Calls with a tag, in hexadecimal.
-const TAGGED: &[&str] = &["tag", "read", "write"];
+const TAGGED: &[&str] = &["tag", "dotted", "read", "write"];
 
 /// Has the tag a byte above 127?
 fn past_ascii(tag: &[u8]) -> bool {
     tag.chunks(2).any(|b| b"89ABCDEFabcdef".contains(&b[0]))
 }
 
-/// What a line shows: its call (none for echoed lines and strange words) and its sort of answer.
-type Group = (&'static str, Vec<u8>);
+/// What a line shows: its call (none for echoed lines and strange words), with `new` and `room` before it, and its sort of answer. Errors stand by
+/// the line's first word.
+type Group = (String, Vec<u8>);
 
-/// The group of a line, and the part of the group: the type code, where it is a known one, the kind, and whether a tag goes past U+007F.
+/// The group of a line, and the part of the group: the type code, where it is a known one, the kind, and whether a tag goes past U+007F. A group
+/// behind `room` has one part.
 fn group(line: &[u8], answer: &[u8]) -> (Group, Vec<u8>) {
-    let fields = split(line);
     if line == answer {
-        return (("", Vec::new()), Vec::new());
+        return ((String::new(), Vec::new()), Vec::new());
     }
-    let Some((name, count, _)) = call(fields[0]) else {
-        return (("", answer.to_vec()), Vec::new());
+    let first = call(split(line)[0]).map_or("", |c| c.0);
+    let Bare { room, fields, .. } = bare(line);
+    let found = call(fields[0]).filter(|_| !answer.starts_with(b"error "));
+    let Some((name, count, _)) = found else {
+        return ((first.into(), answer.to_vec()), Vec::new());
     };
-    if answer.starts_with(b"error ") {
-        return ((name, answer.to_vec()), Vec::new());
-    }
     let sort = match answer.starts_with(b"ok ") && answer != NONE && *name != "ftname" {
         true => b"ok".to_vec(),
         false => answer.to_vec(),
@@ -82,21 +84,25 @@ fn group(line: &[u8], answer: &[u8]) -> (Group, Vec<u8>) {
     if TAGGED.contains(name) && past_ascii(fields[1]) {
         part.push(b'+');
     }
-    ((name, sort), part)
+    if room {
+        part.clear();
+    }
+    ((row_name(line), sort), part)
 }
 
-/// The line's call, also behind `room`.
-fn word(line: &[u8]) -> &[u8] {
-    let fields = split(line);
-    match fields[0] {
-        b"room" => fields.get(2).copied().unwrap_or_default(),
-        word => word,
+/// The line's call, `new` with it, also behind `room`.
+fn word(line: &[u8]) -> String {
+    let line = bare(line);
+    let name = line.fields[0].escape_ascii();
+    match line.new {
+        true => format!("new {name}"),
+        false => name.to_string(),
     }
 }
 
 /// Is it one of a processor?
 fn stateful(line: &[u8]) -> bool {
-    STATEFUL.contains(&word(line))
+    STATEFUL.contains(&bare(line).fields[0])
 }
 
 /// Runs on processors that the Rust can be asked about whole.
@@ -129,7 +135,7 @@ fn runs(seed: u64, n: usize) -> Vec<Vec<u8>> {
 
 /// How many lines of a group are taken at most, after one of each part; of codes that stand for nothing, as many as there is room for.
 fn most((call, answer): &Group) -> usize {
-    match (*call, answer.starts_with(b"error ")) {
+    match (&call[..], answer.starts_with(b"error ")) {
         ("", true) => 40,
         ("", false) | (_, true) => 12,
         (call, false) if BY_CODE.contains(&call) => 0,
@@ -187,7 +193,7 @@ fn sample(seed: u64, n: usize, room: usize) -> Vec<Vec<u8>> {
     let mut rest: Vec<(usize, Vec<Line>)> = Vec::new();
     for (group, mut parts) in groups {
         let mut left = Vec::new();
-        if BY_CODE.contains(&group.0) && group.1 == NONE {
+        if BY_CODE.contains(&&group.0[..]) && group.1 == NONE {
             parts.retain(|code, lines| {
                 let known = CODES.contains(&&code[..]);
                 left.extend(lines.pop_if(|_| !known));
@@ -264,20 +270,19 @@ fn run(dir: &str, hand: &str, seed: u64, n: usize) -> Result<String, String> {
     let room: usize = worked.iter().map(|(r, a)| r.len() + a.len() + 2).sum();
     let room = ROOM.saturating_sub(room + RUNS + 2 * (head.len() + 1));
     let mut generated = 0;
-    let mut missing: BTreeSet<&[u8]> = areas::calls().iter().map(|c| c.as_bytes()).collect();
+    let mut missing: BTreeSet<String> = areas::calls().into_iter().collect();
     for line in sample(seed, n, room).into_iter().chain(runs(seed, n)) {
         // asked again, since an answer may depend on the lines before
         let answer = oracle.line(&line);
         if not_asked(&answer).is_none() {
             put(&line, &answer);
             if !answer.starts_with(b"error ") {
-                missing.remove(word(&line));
+                missing.remove(&word(&line));
             }
             generated += 1;
         }
     }
     if let Some(call) = missing.first() {
-        let call = call.escape_ascii();
         return Err(format!("no line of {call}: N, ROOM or RUNS is too small"));
     }
     let mut alone = 0;

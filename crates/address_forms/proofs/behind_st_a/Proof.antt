@@ -1,19 +1,13 @@
-use Rattle.address_spec.specs.Spelling.{sta}
 use Rattle.address_spec.proofs.Forms.{no-form, finish, same}
 use Rattle.address_spec.proofs.FormReaders.{forms}
 use borrow.Author.Needs.{needs}
-use Rattle.address_forms.proofs.parse_st_a.Statement.{statement}
-use Rattle.address_forms.proofs.parse_st_a.Tie as tie
+use Rattle.address_forms.proofs.behind_st_a.Statement.{statement}
+use Rattle.address_forms.proofs.behind_st_a.Tie as tie
 
-pub parse-st-a-spec : {M : Type 1} → statement M
-unfolding sta
-parse-st-a-spec =
+pub behind-st-a-spec : {M : Type 1} → statement M
+behind-st-a-spec =
     tie.close
     (tie.spec
-    (λ c κs. search needs)
-    (λ c. search needs)
-    (λ c. search needs)
-    (λ c. search (forms, no-form, needs) depth 8)
     (λ c κs. search needs)
     (λ c. search needs)
     (λ c. search needs)

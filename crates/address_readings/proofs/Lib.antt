@@ -1,0 +1,10 @@
+pub mod Places
+pub mod Separators
+pub mod CtLetters
+pub mod Readings
+pub mod Names
+pub mod InParts
+pub mod DottedText
+pub mod FromTheEnd
+pub mod ReadingAnswers
+pub mod ReadingRows
