@@ -1,3 +1,4 @@
+pub mod ReadingRows
 pub mod Places
 pub mod Separators
 pub mod CtLetters
@@ -7,4 +8,3 @@ pub mod InParts
 pub mod DottedText
 pub mod FromTheEnd
 pub mod ReadingAnswers
-pub mod ReadingRows

@@ -20,6 +20,7 @@ use Rattle.address_spec.specs.Spelling.{address, fileThen, separates, nameIn, c
 use Rattle.address_spec.specs.declared.Maybe.the-variants.{Missing, Is}
 use Rattle.address_spec.specs.declared.Address.{Address}
 use Rattle.address_readings.specs.Readings.{stands, elementDigits, pastElement, upToSeparator, separator, plain, plainly}
+use Rattle.address_readings.proofs.ReadingRows.{rows}
 
 -- ---- a full stop and a slash stand before the digits: no digit is one, and no byte above 127
 pub behind-slash : (x : ℕ) → 48 ≤ x → plain x ≡ false
