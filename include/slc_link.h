@@ -20,7 +20,7 @@ extern "C" {
 
 /* the version of this interface */
 #define SLC_LINK_VERSION_MAJOR 0
-#define SLC_LINK_VERSION_MINOR 4
+#define SLC_LINK_VERSION_MINOR 3
 #define SLC_LINK_VERSION_PATCH 0
 
 /* ---- numbers ---- */
@@ -31,7 +31,7 @@ enum {
     SLC_WRITE_ROOM = 284,                /* output of a write request */
     SLC_STATUS_ROOM = 96,                /* output of a status in words */
     SLC_REPLY_ROOM = 514,                /* reply memory of slc_pccc */
-    SLC_TEXT_ROOM = 82,                  /* text memory, where the element or value that is read is text */
+    SLC_TEXT_ROOM = 82,                  /* text memory, where the element that is read is text */
     SLC_DOTTED_ROOM = 255,               /* output of slc_dotted */
     SLC_TAG_ROOM = 64,                   /* output of slc_tags_feed for each byte of the piece, and of slc_tags_finish */
     SLC_MOST_FILES = 256,                /* records in the table of a processor */
@@ -70,8 +70,6 @@ enum {
     SLC_REFUSED_TEXT_ROOM = 24,          /* Has the text memory 82 bytes? */
     SLC_REFUSED_REPLY_LENGTH = 25,       /* Has the reply 63 bytes? */
     SLC_REFUSED_OFFSET = 26,             /* Is the offset at most 65,535? */
-    SLC_REFUSED_REPLY_DATA = 27,         /* Can values be read from the reply's data? */
-    SLC_REFUSED_INDEX = 28,              /* Is there a value with this index? */
     SLC_REFUSED_SEPARATOR = 39           /* Is a timer's or counter's separator in a new entry a full stop or a slash? */
 };
 
@@ -179,15 +177,11 @@ slc_requestor slc_default_requestor(void);
 /* The message that reads what a tag names; `out` needs SLC_REQUEST_ROOM bytes. Refused: 1, 2, 39, 3, 5, 6. */
 slc_request slc_read_request(const uint8_t *tag, size_t tag_len, uint8_t reading, slc_requestor q, uint16_t sequence, uint8_t *out, size_t out_len);
 
-/* the kinds of a value that is written, and of one that a read reply has */
-enum { SLC_RAW = 0, SLC_FALSE = 1, SLC_TRUE = 2, SLC_LATIN1 = 3, SLC_WORD = 4, SLC_LONG = 5, SLC_REAL = 6 };
+enum { SLC_RAW = 0, SLC_FALSE = 1, SLC_TRUE = 2, SLC_LATIN1 = 3 };
 
-/* The message that writes a value to what a tag names; `out` needs SLC_WRITE_ROOM bytes. RAW: mask and data, in `bytes`. FALSE, TRUE: a bit. LATIN1:
-   the text in `bytes`, to A and ST. WORD: `number`, -32768 to 32767, to a word of N, B, S, O or I, and to PRE and ACC. LONG: `number`, of 32 bits with
-   a sign, to L. REAL: the bits of a float, in the low half of `number`, to F. A kind that isn't said to look at `bytes` or at `number` doesn't. A number
-   that is out of range, and another kind, suit no address (4). Refused: 1, 2, 39, 3 to 6. */
-slc_request slc_write_request(const uint8_t *tag, size_t tag_len, uint8_t reading, uint8_t kind, int64_t number, const uint8_t *bytes, size_t bytes_len,
-                              slc_requestor q, uint16_t sequence, uint8_t *out, size_t out_len);
+/* The message that writes raw bytes (mask and data), false, true or text to what a tag names; `out` needs SLC_WRITE_ROOM bytes. `bytes` has the
+   raw bytes or the text. Another kind suits no address (4). Refused: 1, 2, 39, 3 to 6. */
+slc_request slc_write_request(const uint8_t *tag, size_t tag_len, uint8_t reading, uint8_t kind, const uint8_t *bytes, size_t bytes_len, slc_requestor q, uint16_t sequence, uint8_t *out, size_t out_len);
 
 /* The messages that ask for the processor's type, and for the oldest entry of a datalog queue; `out` needs SLC_REQUEST_ROOM bytes.
    Refused: 6. */
@@ -214,26 +208,6 @@ slc_part slc_parse_datalog(const uint8_t *raw, size_t raw_len);
 
 /* The same of a reply from the requester's id on, as slc_pccc gives it. */
 slc_part slc_reply_datalog(const uint8_t *reply, size_t reply_len);
-
-/* A value that a read reply has, and how many it has. */
-typedef struct {
-    uint8_t refused;
-    uint8_t kind;           /* FALSE, TRUE, LATIN1, WORD, LONG or REAL, as for a write */
-    int64_t number;         /* of WORD and LONG the number, of REAL the bits (0 to 4294967295), of FALSE 0, of TRUE 1, of LATIN1 0 */
-    size_t length;          /* of LATIN1 how many bytes of text stand in the lent memory, else 0 */
-    size_t count;           /* how many values the data has */
-} slc_reply_value;
-
-/* The value with this index, from 0, of the data of a read reply, by the tag that was read. `bytes` are that data, behind the reply's head: from
-   SLC_DATA_AT on in a reply as slc_pccc gives it, from byte 61 on in a connected one. Ask for its status first: an error has no values, but may have a
-   byte there. A bit, PRE and ACC have one value; else each element in the data has one, also a last one of A or ST that is cut, and the tag's count plays no part.
-   For text, `text` needs SLC_TEXT_ROOM bytes. No value can be read, whatever the index (27), where there is no data, where a word, a long, a float or
-   the length word of ST is cut, and of a bit of F. Refused: 1, 2, 39, 27, 28, 24. */
-slc_reply_value slc_parse_read_reply(const uint8_t *tag, size_t tag_len, uint8_t reading, const uint8_t *bytes, size_t bytes_len, size_t index, uint8_t *text, size_t text_len);
-
-/* The same by an address, as slc_parse_tag and the requests give it, so that a list of values pays for its tag once. Of the address `code`, `bit` (0, or
-   anything else) and `sub_element` are looked at; a code that no type has is 27, as MG, PD and PLS are. Refused: 27, 28, 24. */
-slc_reply_value slc_parse_read_data(slc_address address, const uint8_t *bytes, size_t bytes_len, size_t index, uint8_t *text, size_t text_len);
 
 /* The question of a number, in words, nothing where the number is none; `out` needs SLC_STATUS_ROOM bytes for a text. Refused: 6. */
 slc_written slc_question(uint8_t number, uint8_t *out, size_t out_len);

@@ -41,18 +41,7 @@ static uint8_t read_request_as(uint8_t reading, const char *tag, size_t room)
 
 static uint8_t write_request_as(uint8_t reading, const char *tag, uint8_t kind, size_t length, size_t room)
 {
-    return slc_write_request(bytes(tag), strlen(tag), reading, kind, 0, zeros, length, slc_default_requestor(), 0, out, room).address.refused;
-}
-
-/* a new entry, and bytes that no number looks at */
-static slc_request write_number(const char *tag, uint8_t kind, int64_t number, size_t room)
-{
-    return slc_write_request(bytes(tag), strlen(tag), SLC_READING_NEW, kind, number, bytes("12345"), 5, slc_default_requestor(), 0, out, room);
-}
-
-static uint8_t suited(const char *tag, uint8_t kind, int64_t number)
-{
-    return write_number(tag, kind, number, SLC_WRITE_ROOM).address.refused;
+    return slc_write_request(bytes(tag), strlen(tag), reading, kind, zeros, length, slc_default_requestor(), 0, out, room).address.refused;
 }
 
 /* as from a stored list, which may have all that a new entry may be */
@@ -74,18 +63,6 @@ static uint8_t write_request(const char *tag, uint8_t kind, size_t length, size_
 static slc_written dotted(const char *tag, size_t room)
 {
     return slc_dotted(bytes(tag), strlen(tag), out, room);
-}
-
-/* a value by its tag, which is as a new entry, with the text in `out` */
-static slc_reply_value read_value(const char *tag, const char *data, size_t length, size_t index, size_t room)
-{
-    return slc_parse_read_reply(bytes(tag), strlen(tag), SLC_READING_NEW, bytes(data), length, index, out, room);
-}
-
-/* the same by its address */
-static slc_reply_value read_data(const char *tag, const char *data, size_t length, size_t index, size_t room)
-{
-    return slc_parse_read_data(slc_parse_tag(bytes(tag), strlen(tag), SLC_READING_NEW), bytes(data), length, index, out, room);
 }
 
 static uint8_t directory_read(size_t offset, size_t room)
@@ -153,11 +130,6 @@ static void rooms(void)
     same("less for slc_dotted", dotted("N7:0", SLC_DOTTED_ROOM - 1).refused, SLC_REFUSED_OUTPUT_ROOM);
     same("SLC_TEXT_ROOM", slc_decode_element(SLC_TYPE_ST, zeros, 84, out, SLC_TEXT_ROOM).refused, 0);
     same("less for slc_decode_element", slc_decode_element(SLC_TYPE_ST, zeros, 84, out, SLC_TEXT_ROOM - 1).refused, SLC_REFUSED_TEXT_ROOM);
-    same("SLC_TEXT_ROOM for slc_parse_read_reply", read_value("ST9:0", "\0\0", 2, 0, SLC_TEXT_ROOM).refused, 0);
-    same("less for slc_parse_read_reply", read_value("ST9:0", "\0\0", 2, 0, SLC_TEXT_ROOM - 1).refused, SLC_REFUSED_TEXT_ROOM);
-    same("SLC_TEXT_ROOM for slc_parse_read_data", read_data("A10:0", "ba", 2, 0, SLC_TEXT_ROOM).refused, 0);
-    same("less for slc_parse_read_data", read_data("A10:0", "ba", 2, 0, SLC_TEXT_ROOM - 1).refused, SLC_REFUSED_TEXT_ROOM);
-    same("none for a number", read_value("N7:0", "12", 2, 0, 0).refused, 0);
     same("SLC_TAG_ROOM", slc_tags_finish(slc_tags_feed(slc_line_empty(), bytes("N"), 1, out, SLC_TAG_ROOM).line, out, SLC_TAG_ROOM) > 0, 1);
     same("SLC_TAG_ROOM for each byte", slc_tags_feed(slc_line_empty(), zeros, 9, out, 9 * SLC_TAG_ROOM).taken, 9);
     same("less for slc_tags_feed", slc_tags_feed(slc_line_empty(), zeros, 9, out, 9 * SLC_TAG_ROOM - 1).taken, 8);
@@ -197,7 +169,7 @@ static void questions(void)
     unsigned n;
     for (n = 0; n < 256; n++)
         same("a question of the number", slc_question((uint8_t)n, out, SLC_STATUS_ROOM).length > 0,
-             (n >= SLC_REFUSED_TAG_BYTES && n <= SLC_REFUSED_INDEX) || n == SLC_REFUSED_SEPARATOR);
+             (n >= SLC_REFUSED_TAG_BYTES && n <= SLC_REFUSED_OFFSET) || n == SLC_REFUSED_SEPARATOR);
     same("less for slc_question", slc_question(SLC_REFUSED_COMMAND, out, SLC_STATUS_ROOM - 1).refused, SLC_REFUSED_OUTPUT_ROOM);
     same("the longest question", slc_question(SLC_REFUSED_COMMAND, out, SLC_STATUS_ROOM).length, 89);
 }
@@ -226,194 +198,7 @@ static void refusals(void)
     same("NUMBER", encoded(SLC_TYPE_N, value(SLC_WHOLE, 65536), "", 2), SLC_REFUSED_NUMBER);
     same("TEXT_LENGTH", slc_encode_element(SLC_TYPE_ST, value(SLC_TEXT, 0), zeros, 83, out, 84), SLC_REFUSED_TEXT_LENGTH);
     same("REPLY_LENGTH", slc_parse_file_directory_size(zeros, 62, slc_sys0_info(zeros, 0)).refused, SLC_REFUSED_REPLY_LENGTH);
-    same("REPLY_DATA", read_value("N7:0", "1", 1, 0, SLC_TEXT_ROOM).refused, SLC_REFUSED_REPLY_DATA);
-    same("INDEX", read_value("N7:0", "12", 2, 1, SLC_TEXT_ROOM).refused, SLC_REFUSED_INDEX);
     same("SEPARATOR", parsed_as(SLC_READING_NEW, "T4:123PRE"), SLC_REFUSED_SEPARATOR);
-}
-
-/* ---- values that are written */
-
-/* The message writes this data behind the mask, and has this last address. */
-static void writes(const char *tag, uint8_t kind, int64_t number, uint8_t last, const char *data, size_t length)
-{
-    slc_request request = write_number(tag, kind, number, SLC_WRITE_ROOM);
-    same(tag, request.address.refused, 0);
-    same("its length", request.length, 25 + length);
-    same("function and size", out[17] == 0xAB && out[18] == length, 1);
-    same("the last address", out[22], last);
-    same("the mask", out[23] == 0xFF && out[24] == 0xFF, 1);
-    same("the data", !memcmp(out + 25, data, length), 1);
-    same("less memory", write_number(tag, kind, number, SLC_WRITE_ROOM - 1).address.refused, SLC_REFUSED_OUTPUT_ROOM);
-}
-
-/* No word, long or float suits the tag, but this kind, if it is one. */
-static void suits(const char *tag, uint8_t kind)
-{
-    uint8_t k;
-    for (k = SLC_WORD; k <= SLC_REAL; k++) {
-        same(tag, suited(tag, k, 15), k == kind ? 0 : SLC_REFUSED_VALUE);
-        /* 4 comes before 6 */
-        same("in no memory", write_number(tag, k, 15, 0).address.refused, k == kind ? SLC_REFUSED_OUTPUT_ROOM : SLC_REFUSED_VALUE);
-    }
-}
-
-static void ranges(const char *tag, uint8_t kind, int64_t least, int64_t most)
-{
-    same(tag, suited(tag, kind, least), 0);
-    same(tag, suited(tag, kind, most), 0);
-    same("one less", suited(tag, kind, least - 1), SLC_REFUSED_VALUE);
-    same("one more", suited(tag, kind, most + 1), SLC_REFUSED_VALUE);
-    same("what a cut would make 15", suited(tag, kind, 2 * (most + 1) + 15), SLC_REFUSED_VALUE);
-    same("the least of all", suited(tag, kind, INT64_MIN), SLC_REFUSED_VALUE);
-    same("the most of all", suited(tag, kind, INT64_MAX), SLC_REFUSED_VALUE);
-}
-
-static void numbers(void)
-{
-    unsigned n;
-    writes("N7:0", SLC_WORD, 15, 0, "\x0F\0", 2), writes("N7:0{0}", SLC_WORD, -32768, 0, "\0\x80", 2), writes("B3:7{1}", SLC_WORD, 32767, 0, "\xFF\x7F", 2);
-    writes("S:4", SLC_WORD, -2, 0, "\xFE\xFF", 2), writes("O:0", SLC_WORD, 1, 0, "\1\0", 2), writes("I:3.9", SLC_WORD, 0x1234, 9, "\x34\x12", 2);
-    /* words 1 and 2 of an element */
-    writes("T4:7.PRE", SLC_WORD, 500, 1, "\xF4\1", 2), writes("C5:7/PRE", SLC_WORD, -1, 1, "\xFF\xFF", 2);
-    writes("T4:7.ACC", SLC_WORD, 500, 2, "\xF4\1", 2), writes("C5:7/ACC", SLC_WORD, -1, 2, "\xFF\xFF", 2);
-    writes("L20:0", SLC_LONG, 0x12345678, 0, "\x78\x56\x34\x12", 4), writes("L20:0{1}", SLC_LONG, -1, 0, "\xFF\xFF\xFF\xFF", 4);
-    /* the bits of a float, also those of a signalling NaN; what is above them plays no part */
-    writes("F8:0", SLC_REAL, 0x3FC00000, 0, "\0\0\xC0\x3F", 4), writes("F8:0{0}", SLC_REAL, 0x7F800001, 0, "\1\0\x80\x7F", 4);
-    writes("F8:0", SLC_REAL, -1, 0, "\xFF\xFF\xFF\xFF", 4), writes("F8:0", SLC_REAL, INT64_MIN + 7, 0, "\7\0\0\0", 4);
-    ranges("N7:0", SLC_WORD, -32768, 32767), ranges("C5:0.ACC", SLC_WORD, -32768, 32767), ranges("L20:0", SLC_LONG, INT32_MIN, INT32_MAX);
-    suits("N7:0", SLC_WORD), suits("B3:0", SLC_WORD), suits("S:1", SLC_WORD), suits("O:0", SLC_WORD), suits("I:0.1", SLC_WORD), suits("T4:0.PRE", SLC_WORD);
-    suits("C5:0.ACC", SLC_WORD), suits("L20:0", SLC_LONG), suits("F8:0", SLC_REAL), suits("A10:0", 0), suits("ST9:0", 0), suits("N7:0/3", 0), suits("B3/3", 0);
-    suits("L20:0/3", 0), suits("F8:0/3", 0), suits("T4:0.DN", 0), suits("N7:0{2}", 0), suits("L20:0{2}", 0), suits("F8:0{2}", 0), suits("I:0/0", 0);
-    for (n = SLC_WORD; n < 256; n++) {
-        /* 1, 2, 39 and 3 come before 4 */
-        same("TAG_BYTES", suited("N7:0\xFF", (uint8_t)n, 40000), SLC_REFUSED_TAG_BYTES);
-        same("TAG", suited("X7:0", (uint8_t)n, 40000), SLC_REFUSED_TAG);
-        same("SEPARATOR", suited("T4:123PRE", (uint8_t)n, 40000), SLC_REFUSED_SEPARATOR);
-        same("BIT_COUNT", suited("N7:0/3{2}", (uint8_t)n, 40000), SLC_REFUSED_BIT_COUNT);
-        if (n > SLC_REAL)
-            same("a kind that there is not", suited("N7:0", (uint8_t)n, 15), SLC_REFUSED_VALUE);
-    }
-    /* the other kinds don't look at the number */
-    same("a bit", suited("N7:0/3", SLC_TRUE, INT64_MIN), 0);
-    same("text", suited("ST9:0", SLC_LATIN1, INT64_MAX), 0);
-    same("raw bytes", suited("N7:0", SLC_RAW, -1), 0);
-}
-
-/* ---- values that are read */
-
-static unsigned equal(slc_reply_value a, slc_reply_value b)
-{
-    return a.refused == b.refused && a.kind == b.kind && a.number == b.number && a.length == b.length && a.count == b.count;
-}
-
-/* A value by its tag and by its address: this kind and number, or this text with its length for a number; of so many. What stands behind the text stays. */
-static void reads(const char *tag, const char *data, size_t length, size_t index, uint8_t kind, int64_t number, const char *text, size_t count)
-{
-    uint8_t lent[2 * SLC_TEXT_ROOM];
-    size_t i, written = kind == SLC_LATIN1 ? (size_t)number : 0;
-    slc_reply_value value;
-    memset(out, 0xEE, sizeof lent);
-    value = read_data(tag, data, length, index, SLC_TEXT_ROOM);
-    memcpy(lent, out, sizeof lent);
-    memset(out, 0xEE, sizeof lent);
-    same("by its address", equal(value, read_value(tag, data, length, index, SLC_TEXT_ROOM)) && !memcmp(lent, out, sizeof lent), 1);
-    same(tag, value.refused, 0);
-    same("its kind", value.kind, kind);
-    same("its number", (unsigned long long)value.number, kind == SLC_LATIN1 ? 0 : (unsigned long long)number);
-    same("its length", value.length, written);
-    same("how many there are", value.count, count);
-    same("its text", !memcmp(out, text, written), 1);
-    for (i = written; i < sizeof lent && out[i] == 0xEE; i++) {
-    }
-    same("what is behind it stays", i, sizeof lent);
-    same("none behind the last", read_value(tag, data, length, count, 0).refused, SLC_REFUSED_INDEX);
-    same("nor far behind it", read_data(tag, data, length, SIZE_MAX, 0).refused, SLC_REFUSED_INDEX);
-}
-
-/* Nothing can be read, whatever the index and the memory. */
-static void unread(const char *tag, const char *data, size_t length)
-{
-    slc_reply_value none = read_value(tag, data, length, 0, SLC_TEXT_ROOM), refused;
-    memset(&refused, 0, sizeof refused);
-    refused.refused = SLC_REFUSED_REPLY_DATA;
-    same(tag, equal(none, refused), 1);
-    same("by its address", equal(read_data(tag, data, length, 0, SLC_TEXT_ROOM), refused), 1);
-    same("far behind", equal(read_value(tag, data, length, SIZE_MAX, 0), refused), 1);
-    same("in no memory", equal(read_data(tag, data, length, 1, 0), refused), 1);
-}
-
-static void values(void)
-{
-    static const char *const every[] = {"N7:0", "N7:0/3", "B3/9", "S:1", "O:0", "I:0.1/2", "L20:0", "L20:0/15", "F8:0", "F8:0/3", "A10:0", "ST9:0",
-                                        "T4:0.PRE", "C5:0.ACC", "T4:0.DN"};
-    static char long_text[85];
-    size_t i;
-    reads("N7:0", "\x0F\0", 2, 0, SLC_WORD, 15, "", 1), reads("N7:0{9}", "\x0F\0\xFE\xFF\0\x80", 6, 1, SLC_WORD, -2, "", 3);
-    reads("B3:0", "\x0F\0\xFE\xFF\0\x80", 6, 2, SLC_WORD, -32768, "", 3), reads("S:4", "\xFF\x7F", 2, 0, SLC_WORD, 32767, "", 1);
-    reads("O:0", "\1\0", 2, 0, SLC_WORD, 1, "", 1), reads("I:3.9", "\1\0", 2, 0, SLC_WORD, 1, "", 1);
-    reads("L20:0", "\x78\x56\x34\x12\xFF\xFF\xFF\xFF", 8, 0, SLC_LONG, 0x12345678, "", 2), reads("L20:0", "\x78\x56\x34\x12\xFF\xFF\xFF\xFF", 8, 1, SLC_LONG, -1, "", 2);
-    reads("F8:0", "\1\0\x80\x7F", 4, 0, SLC_REAL, 0x7F800001, "", 1), reads("F8:0", "\xFF\xFF\xFF\xFF", 4, 0, SLC_REAL, 0xFFFFFFFF, "", 1);
-    reads("T4:0.PRE", "\1\2\3\4", 4, 0, SLC_WORD, 0x0403, "", 1), reads("C5:0/ACC", "\1\2\3\4\5\6\7", 7, 0, SLC_WORD, 0x0605, "", 1);
-    /* bits of the first word, of L of the long; what is behind it plays no part, and question 3 isn't asked */
-    reads("N7:0/3", "\x08\0", 2, 0, SLC_TRUE, 1, "", 1), reads("N7:0/2", "\x08\0\xFF", 3, 0, SLC_FALSE, 0, "", 1), reads("B3/31", "\0\x80\0\0", 4, 0, SLC_TRUE, 1, "", 1);
-    reads("S:1/0", "\1\0", 2, 0, SLC_TRUE, 1, "", 1), reads("O:0/1", "\1\0", 2, 0, SLC_FALSE, 0, "", 1), reads("I:0.1/8", "\0\1", 2, 0, SLC_TRUE, 1, "", 1);
-    reads("T4:0.DN", "\0\x20", 2, 0, SLC_TRUE, 1, "", 1), reads("C5:0.UA", "\xFF\xFB", 2, 0, SLC_FALSE, 0, "", 1), reads("L20:0/15", "\0\x80\0\0", 4, 0, SLC_TRUE, 1, "", 1);
-    reads("N7:0/3{2}", "\x08\0\0\0", 4, 0, SLC_TRUE, 1, "", 1);
-    /* a lone last byte of A is read as NUL and that byte */
-    reads("A10:0", "badc", 4, 1, SLC_LATIN1, 2, "cd", 2), reads("A10:0", "bac", 3, 1, SLC_LATIN1, 2, "\0c", 2), reads("A10:0", "a", 1, 0, SLC_LATIN1, 2, "\0a", 1);
-    /* an odd part of ST gets a zero byte before the swap; the text is cut to the length word, or to what is there */
-    reads("ST9:0", "\3\0badc", 6, 0, SLC_LATIN1, 3, "abc", 1), reads("ST9:0", "\5\0bac", 5, 0, SLC_LATIN1, 4, "ab\0c", 1), reads("ST9:0", "\3\0bac", 5, 0, SLC_LATIN1, 3, "ab\0", 1);
-    reads("ST9:0", "\xFF\xFF" "ba", 4, 0, SLC_LATIN1, 2, "ab", 1), reads("ST9:0", "\5\0", 2, 0, SLC_LATIN1, 0, "", 1), reads("ST9:0", "\0\0ba", 4, 0, SLC_LATIN1, 0, "", 1);
-    memset(long_text, 'x', sizeof long_text);
-    reads("ST9:0", long_text, 84, 0, SLC_LATIN1, 82, long_text, 1), reads("ST9:0", "\x01\0ba", 4, 0, SLC_LATIN1, 1, "a", 1);
-    unread("ST9:0", "1", 1), unread("ST9:0", long_text, 85);
-    for (i = 0; i < sizeof every / sizeof *every; i++)
-        unread(every[i], "", 0);
-    /* a last word, long or float that is cut; PRE, ACC and bits that aren't there; a bit of F */
-    unread("N7:0", "1", 1), unread("N7:0", "123", 3), unread("B3:0", "123", 3), unread("S:0", "123", 3), unread("O:0", "123", 3), unread("I:0", "123", 3);
-    unread("L20:0", "123", 3), unread("L20:0", "123456", 6), unread("F8:0", "1234567", 7), unread("T4:0.PRE", "123", 3), unread("C5:0.ACC", "12345", 5);
-    unread("T4:0.DN", "1", 1), unread("N7:0/3", "1", 1), unread("B3/3", "1", 1), unread("L20:0/3", "123", 3), unread("F8:0/3", "1234", 4);
-
-    /* 1, 2 and 39 come before 27, that before 28, and that before 24 */
-    same("TAG_BYTES", read_value("N7:0\xFF", "", 0, 9, 0).refused, SLC_REFUSED_TAG_BYTES);
-    same("TAG", read_value("X7:0", "", 0, 9, 0).refused, SLC_REFUSED_TAG);
-    same("SEPARATOR", read_value("T4:123PRE", "", 0, 9, 0).refused, SLC_REFUSED_SEPARATOR);
-    same("REPLY_DATA", read_value("ST9:0", "1", 1, 9, 0).refused, SLC_REFUSED_REPLY_DATA);
-    same("INDEX", read_value("ST9:0", "\1\0ba", 4, 9, 0).refused, SLC_REFUSED_INDEX);
-    same("TEXT_ROOM", read_value("ST9:0", "\1\0ba", 4, 0, 0).refused, SLC_REFUSED_TEXT_ROOM);
-    same("a stored list", slc_parse_read_reply(bytes("T4:123PRE"), 9, SLC_READING_STORED, bytes("1234"), 4, 0, out, 0).refused, 0);
-}
-
-/* any address: of it `code`, `bit` and `sub_element` are looked at */
-static void values_by_address(void)
-{
-    slc_address a = slc_parse_tag(bytes("N7:0"), 4, SLC_READING_NEW);
-    unsigned n;
-    slc_reply_value value;
-    a.refused = 9, a.file_number = 9, a.element_number = 9, a.has_position = 9, a.position = 9, a.has_sub_element = 0, a.sub_element = 3, a.element_count = 0, a.kept = 99;
-    value = slc_parse_read_data(a, bytes("\x08\0\x09\0"), 4, 1, out, 0);
-    same("a word", !value.refused && value.kind == SLC_WORD && value.number == 9 && value.count == 2, 1);
-    for (n = 1; n < 256; n++) {
-        a.bit = (uint8_t)n;
-        value = slc_parse_read_data(a, bytes("\x08\0\x09\0"), 4, 0, out, 0);
-        same("a bit", !value.refused && value.kind == SLC_TRUE && value.number == 1 && value.count == 1, 1);
-    }
-    /* what no tag has: a bit past the number is its sign; T without a bit has a word in each element, R a long; MG, PD and PLS have no value */
-    a.sub_element = 65535;
-    same("a bit past a word", slc_parse_read_data(a, bytes("\0\x80"), 2, 0, out, 0).kind, SLC_TRUE);
-    same("the same of another sign", slc_parse_read_data(a, bytes("\xFF\x7F"), 2, 0, out, 0).kind, SLC_FALSE);
-    a.bit = 0;
-    a.code = SLC_TYPE_T;
-    value = slc_parse_read_data(a, bytes("\1\0\2\0\3\0\4\0"), 8, 1, out, 0);
-    same("a timer", !value.refused && value.kind == SLC_WORD && value.number == 4 && value.count == 2, 1);
-    a.code = SLC_TYPE_R;
-    value = slc_parse_read_data(a, bytes("\1\0\1\0\3\0\4\0\0\0"), 10, 0, out, 0);
-    same("a control", !value.refused && value.kind == SLC_LONG && value.number == 65537 && value.count == 2, 1);
-    for (n = 0; n < 256; n++) {
-        a.code = (uint8_t)n;
-        same("a code", slc_parse_read_data(a, zeros, 600, 0, out, SLC_TEXT_ROOM).refused,
-             !slc_type_of_code(a.code).known || n == SLC_TYPE_MG || n == SLC_TYPE_PD || n == SLC_TYPE_PLS ? SLC_REFUSED_REPLY_DATA : 0);
-    }
 }
 
 /* ---- the two readings of a tag */
@@ -620,7 +405,7 @@ static void write_and_read_back(void)
     const uint8_t masked[] = {0xFF, 0xFF, 0x17, 0x00};
     uint8_t message[SLC_WRITE_ROOM], text[SLC_TEXT_ROOM];
     slc_element element;
-    slc_request request = slc_write_request(bytes("N7:3"), 4, SLC_READING_NEW, SLC_RAW, 0, masked, sizeof masked, slc_default_requestor(), 1, message, sizeof message);
+    slc_request request = slc_write_request(bytes("N7:3"), 4, SLC_READING_NEW, SLC_RAW, masked, sizeof masked, slc_default_requestor(), 1, message, sizeof message);
     same("a write", ask(message, request.length), SLC_DATA_AT);
     request = slc_read_request(bytes("N7:3"), 4, SLC_READING_NEW, slc_default_requestor(), 2, message, sizeof message);
     same("a read", ask(message, request.length), SLC_DATA_AT + 2);
@@ -632,40 +417,6 @@ static void write_and_read_back(void)
     same("the text", !element.refused && element.kind == SLC_TEXT && element.length == 5 && !memcmp(text, "share", 5), 1);
     same("less for slc_read", slc_device_read(&device, 14, SLC_TYPE_ST, 1, text, sizeof text - 1).refused, SLC_REFUSED_TEXT_ROOM);
     same("setting an element that isn't there", slc_device_set(&device, 7, SLC_TYPE_N, 10, value(SLC_WHOLE, 0), NULL, 0), SLC_REFUSED_NO_ELEMENT);
-}
-
-/* A value that is written to the device is read back of it, by a read's reply. */
-static void read_back(const char *tag, uint8_t kind, int64_t number, const char *text)
-{
-    uint8_t message[SLC_WRITE_ROOM], lent[SLC_TEXT_ROOM];
-    slc_reply_value value;
-    size_t length;
-    slc_request request = slc_write_request(bytes(tag), strlen(tag), SLC_READING_NEW, kind, number, bytes(text), strlen(text), slc_default_requestor(), 1, message, sizeof message);
-    same(tag, request.address.refused, 0);
-    same("a write", ask(message, request.length), SLC_DATA_AT);
-    same("its status", slc_reply_status(reply, SLC_DATA_AT, out, SLC_STATUS_ROOM).length, 0);
-    request = slc_read_request(bytes(tag), strlen(tag), SLC_READING_NEW, slc_default_requestor(), 2, message, sizeof message);
-    length = ask(message, request.length);
-    same("a read's status", slc_reply_status(reply, length, out, SLC_STATUS_ROOM).length, 0);
-    value = slc_parse_read_data(request.address, reply + SLC_DATA_AT, length - SLC_DATA_AT, 0, lent, sizeof lent);
-    same("the value", !value.refused && value.kind == kind && value.number == number && value.count == 1, 1);
-    same("the text", value.length == strlen(text) && !memcmp(lent, text, value.length), 1);
-}
-
-static void values_back(void)
-{
-    static const uint32_t of_each[][3] = {{0, SLC_TYPE_O, 4}, {1, SLC_TYPE_I, 4}, {2, SLC_TYPE_S, 4}, {3, SLC_TYPE_B, 4}, {4, SLC_TYPE_T, 4}, {5, SLC_TYPE_C, 4},
-                                          {7, SLC_TYPE_N, 4}, {8, SLC_TYPE_F, 4}, {9, SLC_TYPE_ST, 4}, {10, SLC_TYPE_A, 4}, {20, SLC_TYPE_L, 4}};
-    slc_element timer;
-    same("building", slc_device_new(&device, of_each, sizeof of_each / sizeof *of_each, "1747-L552", NULL, 0, 0), 0);
-    read_back("N7:0", SLC_WORD, 15, ""), read_back("N7:3", SLC_WORD, -32768, ""), read_back("B3:1", SLC_WORD, 32767, ""), read_back("S:1", SLC_WORD, -1, "");
-    read_back("O:1", SLC_WORD, 1, ""), read_back("I:0.1", SLC_WORD, 0x1234, ""), read_back("T4:2.PRE", SLC_WORD, 500, ""), read_back("T4:2.ACC", SLC_WORD, -7, "");
-    read_back("C5:2/PRE", SLC_WORD, 500, ""), read_back("C5:2/ACC", SLC_WORD, -7, ""), read_back("L20:1", SLC_LONG, INT32_MIN, ""), read_back("L20:1", SLC_LONG, 0x12345678, "");
-    read_back("F8:1", SLC_REAL, 0x7F800001, ""), read_back("F8:1", SLC_REAL, 0xFFFFFFFF, ""), read_back("F8:1", SLC_REAL, 0, "");
-    read_back("N7:2/3", SLC_TRUE, 1, ""), read_back("N7:2/3", SLC_FALSE, 0, ""), read_back("L20:3/15", SLC_TRUE, 1, ""), read_back("T4:3.DN", SLC_TRUE, 1, "");
-    read_back("A10:1", SLC_LATIN1, 0, "ab"), read_back("ST9:1", SLC_LATIN1, 0, "robusta"), read_back("ST9:1", SLC_LATIN1, 0, ""), read_back("ST9:1", SLC_LATIN1, 0, "caf\xE9");
-    timer = slc_device_read(&device, 4, SLC_TYPE_T, 2, NULL, 0);
-    same("PRE and ACC are words of their own", !timer.refused && timer.word1 == 500 && timer.word2 == -7 && timer.status == 0, 1);
 }
 
 /* each entry once, the oldest first, and then none: so the processor is kept from call to call */
@@ -738,7 +489,6 @@ static void devices(void)
     no_processor("a device that was refused");
     same("a log that is longer than it needs", slc_device_new(&device, NULL, 0, "", zeros, sizeof zeros, 1), 0);
     same("the default files", slc_device_read(&device, 7, SLC_TYPE_N, 0, NULL, 0).refused, 0);
-    values_back();
 }
 
 int main(void)
@@ -746,9 +496,6 @@ int main(void)
     rooms();
     most();
     refusals();
-    numbers();
-    values();
-    values_by_address();
     readings();
     letters_and_separators();
     ill_formed_tags();

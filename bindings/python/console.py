@@ -106,22 +106,6 @@ def shown_element(code, element):
     return f"t:{element.word1}:{element.word2}:{named}"
 
 
-def shown_value(value):
-    """A value of a reply."""
-    if isinstance(value, bool):
-        return f"b:{int(value)}"
-    if isinstance(value, slc.Text):
-        return f"s:{hexadecimal(value.text)}"
-    if isinstance(value, slc.Float):
-        return f"f:{value.bits:08X}"
-    return f"{'w' if isinstance(value, slc.Word) else 'l'}:{value.number}"
-
-
-def shown_values(tag, data, **reading):
-    values = slc.exact_values(tag, data, **reading)
-    return " ".join([str(len(values))] + [shown_value(value) for value in values])
-
-
 def shown_type(t):
     return f"{hexadecimal(t.name.encode())} {t.element_size} {t.code:02X}" if t else "none"
 
@@ -253,8 +237,7 @@ class Sim:
 # ---- calls: the shapes of the fields, and what answers; `**room` goes to those that have an output, the reading in `**named` to those that are told it
 
 ELEMENT = {b"int": [signed], b"float": [bits], b"text": [byte_string], b"words": [words], b"field": [byte_string, signed]}
-WRITE = {b"raw": [byte_string], b"bool": [flag], b"text": [byte_string], b"word": [number(32767, -32768)], b"long": [number(2**31 - 1, -2**31)],
-         b"float": [bits]}
+WRITE = {b"raw": [byte_string], b"bool": [flag], b"text": [byte_string]}
 SPOIL = {b"files": [unsigned], b"typelen": [unsigned], b"logat": [unsigned], b"logleft": [unsigned],
          b"record": [unsigned, unsigned, code, unsigned, unsigned], b"text": [unsigned, code], b"log": [unsigned, code]}
 
@@ -265,8 +248,7 @@ def element_value(kind, *values):
 
 
 def write_value(kind, value):
-    made = {b"bool": bool, b"text": slc.Text, b"word": slc.Word, b"long": slc.Long}
-    return made[kind](value) if kind in made else value
+    return {b"raw": lambda: value, b"bool": lambda: bool(value), b"text": lambda: slc.Text(value)}[kind]()
 
 
 def calls(sim):
@@ -281,8 +263,6 @@ def calls(sim):
         "dotted": ([byte_string], lambda tag, **room: hexadecimal(slc.dotted(tag, **room).encode())),
         "read": ([byte_string, requester, word], lambda *v, **named: hexadecimal(slc.read_request(*v, **named).message)),
         "write": ([byte_string, requester, word, WRITE], write),
-        "reply": ([byte_string, byte_string], shown_values),
-        "value": ([byte_string, byte_string, unsigned], lambda *v, **named: shown_value(slc.exact_value(*v, **named))),
         "proc": ([requester, word], message(slc.processor_type_request)),
         "datalogreq": ([byte], message(slc.datalog_request)),
         "sys0": ([byte_string], shown_sys0),
@@ -314,10 +294,10 @@ def calls(sim):
     }
 
 
-# as PROTOCOL.md has it: `room` has no effect on `swap` and `reply`
-WITH_OUTPUT = {"dotted", "read", "write", "value", "proc", "datalogreq", "dirsizereq", "dirreadreq", "dir", "status", "errtext", "dec", "get", "cmd"}
+# as PROTOCOL.md has it: `room` has no effect on `swap`
+WITH_OUTPUT = {"dotted", "read", "write", "proc", "datalogreq", "dirsizereq", "dirreadreq", "dir", "status", "errtext", "dec", "get", "cmd"}
 # those that `new` may stand before; without it they read a tag as from a stored list
-WITH_READING = {"tag", "read", "write", "reply", "value"}
+WITH_READING = {"tag", "read", "write"}
 
 
 def values_of(shapes, fields):

@@ -12,38 +12,10 @@ HERE = Path(__file__).resolve().parent
 EXAMPLES = HERE.parents[1] / "examples"
 
 
-def run(example, *arguments, text=b"", **env):
-    """Output, errors and exit status of an example."""
-    done = subprocess.run([sys.executable, EXAMPLES / example, *arguments], input=text, env={**os.environ, "PYTHONPATH": str(HERE), **env}, capture_output=True)
-    return done.stdout.decode(), done.stderr.decode(), done.returncode
-
-
-def in_readme(test, example):
-    """README.md's command that ends with an example says what stands under it there: these lines."""
-    lines = (EXAMPLES.parent / "README.md").read_text("utf-8").splitlines()
-    at = next(i for i, line in enumerate(lines) if line.startswith("    $ ") and line.endswith(f"examples/{example}"))
-    there = [line[4:] for line in lines[at + 1:lines.index("", at)]]
-    done = subprocess.run(lines[at][6:], shell=True, cwd=EXAMPLES.parent, capture_output=True, text=True)
-    test.assertEqual((done.stdout.splitlines(), done.stderr), (there, ""))
-    return there
-
-
-class FirstAnswer(unittest.TestCase):
-    def test_it_says_what_the_one_in_c_does(self):
-        self.assertEqual(run("first_answer.py"), ((EXAMPLES / "first_answer.out").read_text(), "", 0))
-
-    def test_readme(self):
-        self.assertEqual(in_readme(self, "first_answer.py")[-1], "N7:0 has 15")
-
-    def test_a_library_that_is_missing(self):
-        said, told, status = run("first_answer.py", SLC_LINK_SO="not-there.so")
-        self.assertEqual((said, status), ("", 1))
-        self.assertIn("./slc lib python", told)
-
-
 class SharedRequests(unittest.TestCase):
-    def run_on(self, *arguments, **named):
-        return run("shared_requests.py", *arguments, **named)
+    def run_on(self, *arguments, text=b"", **env):
+        done = subprocess.run([sys.executable, EXAMPLES / "shared_requests.py", *arguments], input=text, env={**os.environ, "PYTHONPATH": str(HERE), **env}, capture_output=True)
+        return done.stdout.decode(), done.stderr.decode(), done.returncode
 
     def test_the_list(self):
         there = (EXAMPLES / "shared_requests.out").read_text("utf-8")
@@ -68,7 +40,12 @@ class SharedRequests(unittest.TestCase):
             self.assertEqual(self.run_on(text=text, PYTHONIOENCODING=encoding), (groups, refused, 1))
 
     def test_readme(self):
-        self.assertGreater(len(in_readme(self, "shared_requests.py")), 3)
+        lines = (EXAMPLES.parent / "README.md").read_text("utf-8").splitlines()
+        at = next(i for i, line in enumerate(lines) if line.startswith("    $ ") and line.endswith("examples/shared_requests.py"))
+        there = lines[at + 1:lines.index("", at)]
+        done = subprocess.run(lines[at][6:], shell=True, cwd=EXAMPLES.parent, capture_output=True, text=True)
+        self.assertEqual((done.stdout.splitlines(), done.stderr), ([line[4:] for line in there], ""))
+        self.assertGreater(len(there), 3)
 
     def test_nothing(self):
         self.assertEqual(self.run_on(), ("", "", 0))

@@ -4,13 +4,11 @@ processors over PCCC.
 Every call is a proved function of the library; this package lends it memories and turns its answers into Python's values. A call that the library
 refuses raises Refused with the number of the question that was answered with no.
 
+    >>> message = read_request("N7:0", sequence=0x1234).message
     >>> processor = Processor(type_text="1747-L552")
-    >>> reply = processor.pccc(write_request("N7:0", 15, sequence=1).message[COMMAND_AT:])
-    >>> reply_status(reply) is None
-    True
-    >>> reply = processor.pccc(read_request("N7:0", sequence=2).message[COMMAND_AT:])
-    >>> reply_status(reply), parse_read_reply("N7:0", reply[DATA_AT:])
-    (None, [15])
+    >>> processor.set(7, FileCode.N, 0, 15)
+    >>> processor.pccc(message[6:]).hex(" ")
+    '07 09 10 09 10 19 71 4f 00 34 12 0f 00'
     >>> read_request("N7:0/3{2}")
     Traceback (most recent call last):
     slc_link.Refused: refused 3: Is the tag free of a bit together with a count above 1? No.
@@ -31,7 +29,7 @@ from typing import Any, Literal, NamedTuple, NoReturn, Optional, SupportsIndex, 
 from . import _c
 from ._c import OutOfRange
 
-__version__ = "0.4.0"
+__version__ = "0.3.0"
 __all__ = [
     "REQUEST_ROOM", "WRITE_ROOM", "STATUS_ROOM", "REPLY_ROOM", "TEXT_ROOM", "DOTTED_ROOM", "TAG_ROOM", "MOST_FILES", "MOST_DATA", "COMMAND_AT",
     "DATA_AT",
@@ -39,10 +37,9 @@ __all__ = [
     "FileCode", "FileType", "FieldPlace", "type_of_code", "type_of_name", "bit_name", "word_name", "field_of",
     "string_swap", "swap_pairs", "encode_ascii", "encode_string",
     "Whole", "Float", "Text", "Words", "Field", "Fields", "Value", "Element", "encode_element", "decode_element",
-    "Reading", "Address", "Requestor", "Request", "parse_tag", "dotted", "default_requestor", "read_request", "Word", "Long", "WriteValue",
-    "write_request", "processor_type_request", "datalog_request",
+    "Reading", "Address", "Requestor", "Request", "parse_tag", "dotted", "default_requestor", "read_request", "write_request",
+    "processor_type_request", "datalog_request",
     "reply_status", "reply_datalog", "request_status", "error_text", "parse_datalog",
-    "ReplyValue", "ExactValue", "parse_read_reply", "reply_value", "exact_values", "exact_value",
     "Sys0Info", "ListedFile", "sys0_info", "file_directory_size_request", "file_directory_read_request", "reply_directory_size", "parse_file_directory_size",
     "parse_file_directory",
     "File", "FileRecord", "Processor", "Tags",
@@ -88,8 +85,6 @@ class Refusal(IntEnum):
     TEXT_ROOM = 24
     REPLY_LENGTH = 25
     OFFSET = 26
-    REPLY_DATA = 27
-    INDEX = 28
     SEPARATOR = 39
 
 
@@ -452,65 +447,16 @@ def read_request(tag: Tag, requestor: Optional[Vendor] = None, sequence: Support
     return _request("slc_read_request", _tag(tag), reading, _requestor(requestor), sequence, room=room)
 
 
-class Word(NamedTuple):
-    """A word, of N, B, S, O and I, and of PRE and ACC."""
-    number: int
-
-
-class Long(NamedTuple):
-    """A long, of L."""
-    number: int
-
-
-# what a request writes
-WriteValue = Union[Bytes, bool, SupportsIndex, float, Text, Word, Long, Float]
-
-
-def _whole(kind: int, number: Any) -> tuple[int, int, bytes]:
-    """A word or a long for C. What 64 bits can't hold is none either: the library is given another that is out of range, and refuses it."""
-    try:
-        return kind, _c.number(c_int64, number, "a value"), b""
-    except OutOfRange:
-        return kind, 2**63 - 1, b""
-
-
-def _write_value(tag: bytes, reading: SupportsIndex, value: WriteValue) -> tuple[int, int, bytes]:
-    """The kind of a value, its number and its bytes. Only an int asks what the tag names."""
-    if isinstance(value, bool):
-        return _c.SLC_TRUE if value else _c.SLC_FALSE, 0, b""
-    if isinstance(value, (bytes, bytearray, memoryview)):
-        return _c.SLC_RAW, 0, bytes(memoryview(value))
-    if isinstance(value, Text):
-        return _c.SLC_LATIN1, 0, value.text
-    if isinstance(value, float):
-        value = Float.of(value)
-    if isinstance(value, Float):
-        return _c.SLC_REAL, _c.number(c_uint32, value.bits, "bits"), b""
-    if isinstance(value, Word):
-        return _whole(_c.SLC_WORD, value.number)
-    if isinstance(value, Long):
-        return _whole(_c.SLC_LONG, value.number)
-    if not isinstance(value, SupportsIndex):
-        raise TypeError(f"no value to write: {value!r}")
-    long = _c.call("slc_parse_tag", tag, reading).code == FileCode.L
-    return _whole(_c.SLC_LONG if long else _c.SLC_WORD, value)
-
-
-def write_request(tag: Tag, value: WriteValue, requestor: Optional[Vendor] = None, sequence: SupportsIndex = 0,
+def write_request(tag: Tag, value: Union[Bytes, bool, Text], requestor: Optional[Vendor] = None, sequence: SupportsIndex = 0,
                   room: SupportsIndex = WRITE_ROOM, *, reading: SupportsIndex = Reading.NEW) -> Request:
-    """The message that writes to what a tag names. An int is a Long where the tag is one of L, else a Word; one that is out of range is refused with 4. A
-    float, for F, becomes the nearest one of 32 bits, as Float.of gives it (OutOfRange where there is none; 15 on F is refused, 15.0 isn't). A Float has
-    its bits sent as they are, which matters for a NaN: Python's own float may not keep them. True and False are a bit, a Text is for A and ST, and
-    bytes are the mask and the data as they are. Refused: 1, 2, 39, 3 to 6.
-
-    >>> [write_request(tag, value).message[23:].hex(" ") for tag, value in (("N7:0", 15), ("L20:0", 15), ("F8:0", 1.5), ("N7:0/3", True))]
-    ['ff ff 0f 00', 'ff ff 0f 00 00 00', 'ff ff 00 00 c0 3f', '08 00 08 00']
-    >>> write_request("F8:0", Float(0x7F800001)).message[23:].hex(" ")
-    'ff ff 01 00 80 7f'
-    """
-    spelled = _tag(tag)
-    kind, number, data = _write_value(spelled, reading, value)
-    return _request("slc_write_request", spelled, reading, kind, number, data, _requestor(requestor), sequence, room=room)
+    """The message that writes to what a tag names: bytes (mask and data, as they are), True, False, or a Text. Refused: 1, 2, 39, 3 to 6."""
+    if isinstance(value, bool):
+        kind, data = _c.SLC_TRUE if value else _c.SLC_FALSE, b""
+    elif isinstance(value, Text):
+        kind, data = _c.SLC_LATIN1, value.text
+    else:
+        kind, data = _c.SLC_RAW, bytes(memoryview(value))
+    return _request("slc_write_request", _tag(tag), reading, kind, data, _requestor(requestor), sequence, room=room)
 
 
 def processor_type_request(requestor: Optional[Vendor] = None, sequence: SupportsIndex = 0, room: SupportsIndex = REQUEST_ROOM) -> bytes:
@@ -555,90 +501,6 @@ def error_text(status: SupportsIndex, room: SupportsIndex = STATUS_ROOM) -> Opti
 def parse_datalog(raw: Latin1) -> bytes:
     """As reply_datalog, of a connected reply with its encapsulation, whose id has 7 bytes: its PCCC begins at byte 50."""
     return _part("slc_parse_datalog", _bytes(raw))
-
-
-# ---- the values of a read reply
-
-# what a value is in Python, and with its kind and all of its bits, as write_request takes it
-ReplyValue = Union[bool, int, float, str]
-ExactValue = Union[bool, Word, Long, Float, Text]
-
-
-def _c_address(a: Address) -> Any:
-    return _c.made(_c.slc_address, refused=0, code=a.code, file_number=a.file_number, element_number=a.element_number,
-                   has_position=int(a.position is not None), position=a.position or 0, has_sub_element=int(a.sub_element is not None),
-                   sub_element=a.sub_element or 0, bit=int(a.bit), element_count=a.element_count, kept=a.kept)
-
-
-def _exact(found: Any, text: Any) -> ExactValue:
-    _test(found.refused)
-    if found.kind == _c.SLC_LATIN1:
-        return Text(bytes(text[:found.length]))
-    if found.kind == _c.SLC_WORD:
-        return Word(found.number)
-    if found.kind == _c.SLC_LONG:
-        return Long(found.number)
-    if found.kind == _c.SLC_REAL:
-        return Float(found.number)
-    return bool(found.kind == _c.SLC_TRUE)
-
-
-def _plain(value: ExactValue) -> ReplyValue:
-    if isinstance(value, bool):
-        return value
-    return value.text.decode("latin-1") if isinstance(value, Text) else value.number
-
-
-def exact_value(tag: Union[Tag, Address], data: Latin1, index: SupportsIndex, room: SupportsIndex = TEXT_ROOM, *,
-                reading: SupportsIndex = Reading.NEW) -> ExactValue:
-    """As reply_value, with the value as write_request takes it: True, False, a Word, a Long, a Float, which has all bits, or a Text.
-    Refused: 1, 2, 39, 27, 28, 24."""
-    text = _c.output(room)
-    if isinstance(tag, Address):
-        return _exact(_c.call("slc_parse_read_data", _c_address(tag), _bytes(data), index, text), text)
-    return _exact(_c.call("slc_parse_read_reply", _tag(tag), reading, _bytes(data), index, text), text)
-
-
-def exact_values(tag: Union[Tag, Address], data: Latin1, *, reading: SupportsIndex = Reading.NEW) -> list[ExactValue]:
-    """As parse_read_reply, with the values as write_request takes them: True, False, a Word, a Long, a Float, which has all bits, or a Text.
-    Refused: 1, 2, 39, 27.
-
-    >>> exact_values("F8:0", bytes.fromhex("01 00 80 7F"))
-    [Float(bits=2139095041)]
-    """
-    address = _c_address(tag if isinstance(tag, Address) else parse_tag(tag, reading=reading))
-    # copied once, not for each value
-    memory, text = _c.lent(c_uint8, _bytes(data)), _c.output(TEXT_ROOM)
-    first = _c.call("slc_parse_read_data", address, memory, 0, text)
-    others = range(1, first.count)
-    return [_exact(first, text)] + [_exact(_c.call("slc_parse_read_data", address, memory, index, text), text) for index in others]
-
-
-def reply_value(tag: Union[Tag, Address], data: Latin1, index: SupportsIndex, room: SupportsIndex = TEXT_ROOM, *,
-                reading: SupportsIndex = Reading.NEW) -> ReplyValue:
-    """The value of parse_read_reply that has this index, from 0; one beyond 64 bits is OutOfRange. Refused: 1, 2, 39, 27, 28, 24.
-
-    >>> reply_value("N7:0{2}", bytes.fromhex("0F 00 FF FF"), 1)
-    -1
-    """
-    return _plain(exact_value(tag, data, index, room, reading=reading))
-
-
-def parse_read_reply(tag: Union[Tag, Address], data: Latin1, *, reading: SupportsIndex = Reading.NEW) -> list[ReplyValue]:
-    """The values of the data of a read reply, by the tag that was read, or by its address (a Request has it): a word or a long as an int, a float, a bit
-    as True or False, text as a str. The data begins behind the reply's head: at DATA_AT in a reply as Processor.pccc gives it, at byte 61 in a connected
-    one. Ask for reply_status first: an error has no values, but may have a byte there.
-
-    A bit, PRE and ACC have one value; else each element in the data has one, also a last one of A or ST that is cut, and the tag's count plays no part. No value
-    can be read (27) where there is no data, where a word, a long, a float or the length word of ST is cut, and of a bit of F. A float of 32 bits is one
-    of Python's, but a NaN may lose some of its bits in it: exact_values keeps them. Refused: 1, 2, 39, 27.
-
-    >>> parse_read_reply("N7:0{2}", bytes.fromhex("0F 00 FF FF")), parse_read_reply("N7:0/3", bytes.fromhex("0F 00"))
-    ([15, -1], [True])
-    >>> parse_read_reply("F8:0", bytes.fromhex("00 00 C0 3F")), parse_read_reply("ST9:0", encode_string("caf\xe9"))
-    ([1.5], ['café'])
-    """
-    return [_plain(value) for value in exact_values(tag, data, reading=reading)]
 
 
 # ---- the file directory, as a client reads it

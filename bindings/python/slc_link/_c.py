@@ -57,11 +57,7 @@ class slc_request(Structure):
     _fields_ = [("address", slc_address), ("length", c_size_t)]
 
 
-SLC_RAW, SLC_FALSE, SLC_TRUE, SLC_LATIN1, SLC_WORD, SLC_LONG, SLC_REAL = 0, 1, 2, 3, 4, 5, 6
-
-
-class slc_reply_value(Structure):
-    _fields_ = [("refused", c_uint8), ("kind", c_uint8), ("number", c_int64), ("length", c_size_t), ("count", c_size_t)]
+SLC_RAW, SLC_FALSE, SLC_TRUE, SLC_LATIN1 = 0, 1, 2, 3
 
 
 class slc_part(Structure):
@@ -135,8 +131,7 @@ CALLS: dict[str, tuple[Any, dict[str, Any]]] = {
     "slc_dotted": (slc_written, dict(tag=_IN, out=_OUT)),
     "slc_default_requestor": (slc_requestor, dict()),
     "slc_read_request": (slc_request, dict(tag=_IN, reading=c_uint8, q=slc_requestor, sequence=c_uint16, out=_OUT)),
-    "slc_write_request": (slc_request, dict(tag=_IN, reading=c_uint8, kind=c_uint8, number=c_int64, bytes=_IN, q=slc_requestor, sequence=c_uint16,
-                                            out=_OUT)),
+    "slc_write_request": (slc_request, dict(tag=_IN, reading=c_uint8, kind=c_uint8, bytes=_IN, q=slc_requestor, sequence=c_uint16, out=_OUT)),
     "slc_processor_type_request": (slc_written, dict(q=slc_requestor, sequence=c_uint16, out=_OUT)),
     "slc_datalog_request": (slc_written, dict(queue=c_uint8, out=_OUT)),
     "slc_request_status": (slc_written, dict(raw=_IN, out=_OUT)),
@@ -144,8 +139,6 @@ CALLS: dict[str, tuple[Any, dict[str, Any]]] = {
     "slc_error_text": (slc_written, dict(status=c_uint8, out=_OUT)),
     "slc_parse_datalog": (slc_part, dict(raw=_IN)),
     "slc_reply_datalog": (slc_part, dict(reply=_IN)),
-    "slc_parse_read_reply": (slc_reply_value, dict(tag=_IN, reading=c_uint8, bytes=_IN, index=c_size_t, text=_OUT)),
-    "slc_parse_read_data": (slc_reply_value, dict(address=slc_address, bytes=_IN, index=c_size_t, text=_OUT)),
     "slc_question": (slc_written, dict(number=c_uint8, out=_OUT)),
     "slc_sys0_info": (slc_sys0, dict(plc_type=_IN)),
     "slc_file_directory_size_request": (slc_written, dict(info=slc_sys0, q=slc_requestor, sequence=c_uint16, out=_OUT)),

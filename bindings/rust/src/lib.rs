@@ -3,28 +3,25 @@
 //!
 //! Every call is a proved function of the library `libslc_link.a`; this package lends it slices and turns its answers into enums. A call that
 //! the library refuses is an [`Err`] with the question that was answered with no ([`Refused`]); it changes no lent byte. Output
-//! goes to slices that the caller lends, and what was written is handed back as a part of them; only the text of a [`ReplyValue`] comes by value.
-//! Nothing is allocated but by [`Processor::new`] and by cloning a [`Processor`]. A tag is UTF-8, as text or as bytes, and a call is told how it is read ([`Reading`]); names and
+//! goes to slices that the caller lends, and what was written is handed back as a part of them. Nothing is allocated but by
+//! [`Processor::new`] and by cloning a [`Processor`]. A tag is UTF-8, as text or as bytes, and a call is told how it is read ([`Reading`]); names and
 //! all other texts are Latin-1 bytes.
 //!
 //! ```
-//! use slc_link::{parse_read_data, read_request, reply_status, write_request, Processor, Reading, Refused, ReplyValue, Requestor, WriteValue};
-//! use slc_link::{COMMAND_AT, DATA_AT, REPLY_ROOM, STATUS_ROOM, WRITE_ROOM};
+//! use slc_link::{read_request, FileType, Processor, Reading, Refused, Requestor, Spot, Value, COMMAND_AT, DATA_AT, REPLY_ROOM, REQUEST_ROOM};
 //!
-//! // a simulated processor with the default files
+//! // the message that reads N7:0; its PCCC command begins behind the six bytes of service and path
+//! let mut out = [0; REQUEST_ROOM];
+//! let request = read_request("N7:0", Reading::New, Requestor::default(), 0x1234, &mut out)?;
+//! assert_eq!(request.address.file_type, FileType::N);
+//! let command = &request.message[COMMAND_AT..];
+//!
+//! // a processor with the default files answers it
 //! let mut processor = Processor::new(&[], b"1747-L552", &[])?;
-//! let (mut out, mut reply, mut status) = ([0; WRITE_ROOM], [0; REPLY_ROOM], [0; STATUS_ROOM]);
-//!
-//! // set N7:0 to 15; a message's PCCC command begins behind the six bytes of service and path
-//! let request = write_request("N7:0", Reading::New, WriteValue::Word(15), Requestor::default(), 1, &mut out)?;
-//! let answer = processor.pccc(&request.message[COMMAND_AT..], &mut reply)?;
-//! assert_eq!(reply_status(answer, &mut status)?, None);
-//!
-//! // read it back as 15
-//! let request = read_request("N7:0", Reading::New, Requestor::default(), 2, &mut out)?;
-//! let answer = processor.pccc(&request.message[COMMAND_AT..], &mut reply)?;
-//! assert_eq!(reply_status(answer, &mut status)?, None);
-//! assert_eq!(parse_read_data(request.address, &answer[DATA_AT..], 0)?.value, ReplyValue::Word(15));
+//! processor.set(Spot { number: 7, file_type: FileType::N, element: 0 }, Value::Whole(15))?;
+//! let mut reply = [0; REPLY_ROOM];
+//! let reply = processor.pccc(command, &mut reply)?;
+//! assert_eq!(reply[DATA_AT..], [15, 0]);
 //!
 //! // a bit can't be read with a count above 1
 //! let refused = read_request("N7:0/3{2}", Reading::New, Requestor::default(), 0, &mut out).unwrap_err();
@@ -39,7 +36,6 @@ mod file_type;
 mod processor;
 mod refused;
 mod reply;
-mod reply_value;
 mod request;
 pub mod sys;
 mod tags;
@@ -54,7 +50,6 @@ pub use file_type::{Field, FileType, Name, UnknownCode};
 pub use processor::{File, FileRecord, Processor, Spot};
 pub use refused::{Question, Refused, UnknownNumber};
 pub use reply::{error_text, parse_datalog, reply_datalog, reply_status, request_status};
-pub use reply_value::{parse_read_data, parse_read_reply, read_values, ReadValue, ReadValues, ReplyText, ReplyValue};
 pub use request::{
     datalog_request, dotted, parse_tag, processor_type_request, read_request, write_request, Address, Reading, Request, Requestor,
     WriteValue,
@@ -70,7 +65,7 @@ pub const WRITE_ROOM: usize = 284;
 pub const STATUS_ROOM: usize = 96;
 /// Bytes that the memory of a reply needs (question 17).
 pub const REPLY_ROOM: usize = 514;
-/// Bytes that the memory of a text needs (question 24), and the most that a [`ReplyText`] has.
+/// Bytes that the memory of a text needs (question 24).
 pub const TEXT_ROOM: usize = 82;
 /// Bytes of output that [`dotted`] needs (question 6).
 pub const DOTTED_ROOM: usize = 255;

@@ -43,8 +43,6 @@ pub enum Refused {
     TextRoom = 24,
     ReplyLength = 25,
     Offset = 26,
-    ReplyData = 27,
-    Index = 28,
     Separator = 39,
 }
 
@@ -109,8 +107,6 @@ impl Refused {
             TextRoom,
             ReplyLength,
             Offset,
-            ReplyData,
-            Index,
             Separator,
         ]
     };

@@ -58,7 +58,7 @@ pub struct Requestor {
     pub vsn: [u8; 4],
 }
 
-/// What a request writes. An [`f32`] is one too: `1.5.into()`.
+/// What a request writes.
 #[derive(Clone, Copy, Debug, PartialEq, Eq, Hash)]
 #[non_exhaustive]
 pub enum WriteValue<'a> {
@@ -68,23 +68,10 @@ pub enum WriteValue<'a> {
     Bool(bool),
     /// Latin-1 text, for A and ST.
     Text(&'a [u8]),
-    /// A word, for N, B, S, O and I, and for PRE and ACC.
-    Word(i16),
-    /// A long, for L.
-    Long(i32),
-    /// The bits of a float, for F; they are sent as they are, also those of a NaN.
-    Float(u32),
-}
-
-/// The float, with all of its bits.
-impl From<f32> for WriteValue<'_> {
-    fn from(number: f32) -> Self {
-        WriteValue::Float(number.to_bits())
-    }
 }
 
 impl Reading {
-    pub(crate) fn c(self) -> u8 {
+    fn c(self) -> u8 {
         match self {
             Reading::New => sys::SLC_READING_NEW,
             Reading::Stored => sys::SLC_READING_STORED,
@@ -105,22 +92,6 @@ impl Address {
             element_count: found.element_count,
             kept: found.kept,
         })
-    }
-
-    pub(crate) fn c(self) -> sys::slc_address {
-        sys::slc_address {
-            refused: 0,
-            code: self.file_type.code(),
-            file_number: self.file_number,
-            element_number: self.element_number,
-            has_position: self.position.is_some().into(),
-            position: self.position.unwrap_or(0),
-            has_sub_element: self.sub_element.is_some().into(),
-            sub_element: self.sub_element.unwrap_or(0),
-            bit: self.bit.into(),
-            element_count: self.element_count,
-            kept: self.kept,
-        }
     }
 }
 
@@ -190,20 +161,7 @@ pub fn read_request<'o>(
     request(built, out)
 }
 
-/// The message that writes to what a tag names, which is UTF-8, as text or as bytes; `out` needs 284 bytes. A word, a long and a float have a count of
-/// 0 or 1. Refused: 1, 2, 39, 3 to 6.
-///
-/// ```
-/// use slc_link::{write_request, Reading, Refused, Requestor, WriteValue, WRITE_ROOM};
-///
-/// let mut out = [0; WRITE_ROOM];
-/// let mut sent = |tag, value| write_request(tag, Reading::New, value, Requestor::default(), 0, &mut out).map(|r| r.message[23..].to_vec());
-/// // mask word and data
-/// assert_eq!(sent("N7:0", WriteValue::Word(15)), Ok(vec![0xFF, 0xFF, 15, 0]));
-/// assert_eq!(sent("N7:0/3", WriteValue::Bool(true)), Ok(vec![8, 0, 8, 0]));
-/// assert_eq!(sent("F8:0", 1.5.into()), Ok(vec![0xFF, 0xFF, 0, 0, 0xC0, 0x3F]));
-/// assert_eq!(sent("F8:0", WriteValue::Word(15)), Err(Refused::Value));
-/// ```
+/// The message that writes to what a tag names, which is UTF-8, as text or as bytes; `out` needs 284 bytes. Refused: 1, 2, 39, 3 to 6.
 pub fn write_request<'o>(
     tag: impl AsRef<[u8]>,
     reading: Reading,
@@ -213,14 +171,11 @@ pub fn write_request<'o>(
     out: &'o mut [u8],
 ) -> Result<Request<'o>, Refused> {
     let tag = tag.as_ref();
-    let (kind, number, bytes): (u8, i64, &[u8]) = match value {
-        WriteValue::Raw(bytes) => (sys::SLC_RAW, 0, bytes),
-        WriteValue::Bool(false) => (sys::SLC_FALSE, 0, &[]),
-        WriteValue::Bool(true) => (sys::SLC_TRUE, 0, &[]),
-        WriteValue::Text(text) => (sys::SLC_LATIN1, 0, text),
-        WriteValue::Word(number) => (sys::SLC_WORD, number.into(), &[]),
-        WriteValue::Long(number) => (sys::SLC_LONG, number.into(), &[]),
-        WriteValue::Float(bits) => (sys::SLC_REAL, bits.into(), &[]),
+    let (kind, bytes): (u8, &[u8]) = match value {
+        WriteValue::Raw(bytes) => (sys::SLC_RAW, bytes),
+        WriteValue::Bool(false) => (sys::SLC_FALSE, &[]),
+        WriteValue::Bool(true) => (sys::SLC_TRUE, &[]),
+        WriteValue::Text(text) => (sys::SLC_LATIN1, text),
     };
     let built = unsafe {
         sys::slc_write_request(
@@ -228,7 +183,6 @@ pub fn write_request<'o>(
             tag.len(),
             reading.c(),
             kind,
-            number,
             bytes.as_ptr(),
             bytes.len(),
             q.c(),

@@ -100,19 +100,6 @@ pub const SLC_RAW: u8 = 0;
 pub const SLC_FALSE: u8 = 1;
 pub const SLC_TRUE: u8 = 2;
 pub const SLC_LATIN1: u8 = 3;
-pub const SLC_WORD: u8 = 4;
-pub const SLC_LONG: u8 = 5;
-pub const SLC_REAL: u8 = 6;
-
-#[repr(C)]
-#[derive(Clone, Copy, Debug)]
-pub struct slc_reply_value {
-    pub refused: u8,
-    pub kind: u8,
-    pub number: i64,
-    pub length: usize,
-    pub count: usize,
-}
 
 #[repr(C)]
 #[derive(Clone, Copy, Debug)]
@@ -234,7 +221,6 @@ extern "C" {
         tag_len: usize,
         reading: u8,
         kind: u8,
-        number: i64,
         bytes: *const u8,
         bytes_len: usize,
         q: slc_requestor,
@@ -249,24 +235,6 @@ extern "C" {
     pub fn slc_error_text(status: u8, out: *mut u8, out_len: usize) -> slc_written;
     pub fn slc_parse_datalog(raw: *const u8, raw_len: usize) -> slc_part;
     pub fn slc_reply_datalog(reply: *const u8, reply_len: usize) -> slc_part;
-    pub fn slc_parse_read_reply(
-        tag: *const u8,
-        tag_len: usize,
-        reading: u8,
-        bytes: *const u8,
-        bytes_len: usize,
-        index: usize,
-        text: *mut u8,
-        text_len: usize,
-    ) -> slc_reply_value;
-    pub fn slc_parse_read_data(
-        address: slc_address,
-        bytes: *const u8,
-        bytes_len: usize,
-        index: usize,
-        text: *mut u8,
-        text_len: usize,
-    ) -> slc_reply_value;
     pub fn slc_question(number: u8, out: *mut u8, out_len: usize) -> slc_written;
     pub fn slc_sys0_info(plc_type: *const u8, plc_type_len: usize) -> slc_sys0;
     pub fn slc_file_directory_size_request(info: slc_sys0, q: slc_requestor, sequence: u16, out: *mut u8, out_len: usize) -> slc_written;

@@ -140,18 +140,14 @@ form_can alphabet separator tag x =
 pub refused : {X : Type 0} {n : ℕ} {y : Address} → parsed.Refused n ≡ parsed.Is y → X
 refused e = absurd (let w : ◌≡◌ {A = ℕ} 0 1 = cc in omega arith)
 
--- what the forms show of an address holds of whatever a tag spells
-pub of_forms : {X : Type 0} (tag : List ℕ) (x : Address) → (form_of utf8 separates tag ≡ some x → X) → address_of tag ≡ parsed.Is x → X
+pub can : (tag : List ℕ) (x : Address) → address_of tag ≡ parsed.Is x → CanSpell x
 unfolding address_of
-of_forms {X} tag x = go (leb (length tag) 255 && well_formed tag) (form_of utf8 separates tag)
+can tag x = go (leb (length tag) 255 && well_formed tag) (form_of utf8 separates tag) (form_can utf8 separates tag x)
   where
-    go : (t : Bool) (z : Option Address) → (z ≡ some x → X) → cond t (accepted z) (parsed.Refused 1) ≡ parsed.Is x → X
+    go : (t : Bool) (z : Option Address) → (z ≡ some x → CanSpell x) → cond t (accepted z) (parsed.Refused 1) ≡ parsed.Is x → CanSpell x
     go false z h q = refused q
     go true none h q = refused q
     go true (some y) h q = h (cc)
-
-pub can : (tag : List ℕ) (x : Address) → address_of tag ≡ parsed.Is x → CanSpell x
-can tag x = of_forms tag x (form_can utf8 separates tag x)
 
 -- ---- how large the numbers are; position 0, or a file of at most 1: so the address fields of a request need at most seven bytes
 never : {X : Type 0} → false ≡ true → X

@@ -1,15 +1,12 @@
 -- Parts of lists, in the code's words (`i + 1`, where the library has `suc i`).
-use Prim.Native.Nat.{ℕ, zero, suc, ◌+◌, ◌-◌, ◌≤◌, ◌<◌, min}
-use mathlib.Core.Path.{◌≡◌, refl, ap, sym, ◌∙◌}
-use mathlib.Core.Bool.{Bool, true, false}
+use Prim.Native.Nat.{ℕ, zero, suc, ◌+◌, ◌-◌, ◌≤◌, ◌<◌}
+use mathlib.Core.Path.{◌≡◌, refl, ap, sym}
 use mathlib.Core.List.{List, [], ◌∷◌}
 use native.Mathlib.Nat.{le_of_suc-le-suc, not-suc-le-zero, sub-zero}
 use native.Mathlib.Numerals.{add-one}
 use native.Mathlib.Omega.{arith}
-use borrow.Author.Tests.{leb-true, leb-false}
-use lib.Dec.{leb}
-use lib.ListN.{length, take, drop, get_or, replicate, get_or-eq_default, drop_of_length-le}
-use lib.Seq.{drop-cons, take_all}
+use lib.ListN.{length, drop, get_or, replicate, get_or-eq_default}
+use lib.Seq.{drop-cons}
 
 pub drop_next : (s : List ℕ) (i : ℕ) → i < length s → drop i s ≡ get_or s i 0 ∷ drop (i + 1) s
 drop_next s i h = rw add-one (drop-cons s i 0 h)
@@ -27,25 +24,6 @@ pub drop_replicate : {A : Type 0} (i n : ℕ) (a : A) → drop i (replicate n a)
 drop_replicate zero n a = ap (λ (k : ℕ). replicate k a) (sym (sub-zero n))
 drop_replicate (suc i) zero a = let e : zero - suc i ≡ 0 = omega arith in rw e
 drop_replicate (suc i) (suc n) a = let e : suc n - suc i ≡ n - i = omega arith in rw e (drop_replicate i n a)
-
--- a number that is held to the length, to take or to drop
-module _ (s : List ℕ) (k n : ℕ) (e : n ≡ min k (length s)) where
-  pub take_least : take n s ≡ take k s
-  take_least = go (leb (length s) k) refl
-    where
-      go : (b : Bool) → leb (length s) k ≡ b → take n s ≡ take k s
-      go true t = let h : length s ≤ k = leb-true (length s) k t in take_all n s (omega arith) ∙ sym (take_all k s h)
-      go false t = let h : n ≡ k = omega (arith, leb-false (length s) k t) in rw h
-
-  pub drop_least : drop n s ≡ drop k s
-  drop_least = go (leb (length s) k) refl
-    where
-      go : (b : Bool) → leb (length s) k ≡ b → drop n s ≡ drop k s
-      go true t =
-          let h : length s ≤ k = leb-true (length s) k t in
-          let g : length s ≤ n = omega arith in
-          rw (drop_of_length-le s h, drop_of_length-le s g)
-      go false t = let h : n ≡ k = omega (arith, leb-false (length s) k t) in rw h
 
 -- a list of two, of three, and of four
 pub two_of : (s : List ℕ) → length s ≡ 2 → s ≡ get_or s 0 0 ∷ get_or s 1 0 ∷ []

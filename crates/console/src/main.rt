@@ -80,7 +80,6 @@ fn reply(
     let area = a.area;
     match area {
         Area::Listing => crate::directories::say_dir(a, space, out, p),
-        Area::Values => crate::replies::say_values(a, space, out, p),
         _ => {
             let n = text::within(a.start, line);
             let answer = call(a, &line[n..], space, memory, store);

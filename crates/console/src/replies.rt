@@ -1,17 +1,11 @@
 // The calls of the line protocol on replies (module 4). The bytes of fields stand in `space`, the answer in `memory`, of which a status
 // text gets `room` bytes.
-mod values;
-
 use crate::answers::Answer;
 use crate::lines::Args;
 use reply_status_text::StatusText;
-pub use values::say_values;
 
-// `status RAWREPLY`, `errtext STATUS`, `datalogparse RAWREPLY`, `value TAG DATA INDEX`
+// `status RAWREPLY`, `errtext STATUS`, `datalogparse RAWREPLY`
 pub fn answer(a: Args, word: &[u8], space: &[u8], memory: &mut [u8]) -> Answer {
-    if text::is(word, b"value") {
-        return values::one(a, space, memory);
-    }
     if text::is(word, b"datalogparse") {
         let entry = reply::parse_datalog(crate::lines::part(space, a, 0));
         return Answer::Bytes(base::put_all(memory, 0, entry));

@@ -71,35 +71,19 @@ fn read(a: Args, space: &[u8], message: &mut [u8]) -> Answer {
     of_request(request::read_request(tag, r, q, crate::lines::word(a, 2), message))
 }
 
-// The value of the fields KIND VALUE: `raw BYTES`, `text LATIN1`, `bool 0` or `bool 1`, `word N`, `long N`, `float BITS`.
-fn value_of(a: Args) -> WriteValue {
-    if a.kind == 1 {
+// The value of the fields KIND VALUE: `raw BYTES`, `text LATIN1`, `bool 0` or `bool 1`.
+fn value_of(kind: u8, n: u64) -> WriteValue {
+    if kind == 1 {
         return WriteValue::Raw;
     }
-    if a.kind == 2 {
+    if kind == 2 {
         return WriteValue::Text;
     }
-    if a.kind == 3 {
-        return WriteValue::Bool(crate::lines::number(a, 4) == 1);
-    }
-    number_of(a)
-}
-
-// The range of a number was tested when its field was read.
-fn number_of(a: Args) -> WriteValue {
-    let w = a.whole;
-    let bits = element_whole::low_half(w[0]);
-    if a.kind == 4 {
-        return WriteValue::Word(element_whole::signed_word((bits % 65536) as u16));
-    }
-    if a.kind == 5 {
-        return WriteValue::Long(element_whole::signed_long(bits));
-    }
-    WriteValue::Float(a.bits)
+    WriteValue::Bool(n == 1)
 }
 
 fn write(a: Args, space: &[u8], message: &mut [u8]) -> Answer {
-    let v = value_of(a);
+    let v = value_of(a.kind, crate::lines::number(a, 4));
     let q = requestor(crate::lines::part(space, a, 1));
     let tag = crate::lines::part(space, a, 0);
     let given = crate::lines::part(space, a, 4);

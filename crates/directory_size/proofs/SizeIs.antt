@@ -13,7 +13,7 @@ use mir.Val.{Fits, SFits, to_z, of_z}
 use mir.ValLaws.{to_z_pos, to_z-of_z}
 use Rattle.base.specs.Numbers.{number}
 use Rattle.reply_part.specs.Part.{of_raw, of_reply, data_of}
-use Rattle.reply_part.proofs.Parts.{one_part_lem}
+use Rattle.reply_part.proofs.Parts.{one_part}
 use Rattle.directory_size.specs.declared.DirectorySize.{DirectorySize}
 use Rattle.directory_size.specs.declared.DirectorySize.TheVariants as size
 use Rattle.directory_size.specs.Size.{size_in, size_of, reply_size}
@@ -54,4 +54,4 @@ short_reply n s const h = sym (no_word (data_of (of_reply (n ∷ s))) const (sim
 
 -- the two forms are one: an id of 7 bytes behind 50 bytes of anything
 pub one_size : (h s : List ℕ) (const : ℕ) → length h ≡ 50 → reply_size (7 ∷ s) const ≡ size_of (h ++ (7 ∷ s)) const
-one_size h s const e = ap (λ (part : List ℕ). size_in (data_of part) const) (sym (one_part_lem h s e))
+one_size h s const e = ap (λ (part : List ℕ). size_in (data_of part) const) (sym (one_part h s e))

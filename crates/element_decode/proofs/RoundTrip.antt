@@ -19,7 +19,7 @@ use Rattle.element_spec.specs.Decode.{decode_as, whole}
 
 module _ (k ones half : ℕ) (w : suc ones ≡ 256 ^ k) (h : suc ones ≡ 2 * half) where
   -- a number from −half to half − 1, in k bytes, low byte first
-  pub back : (z : ℤ) → in_range half (half - 1) z ≡ true → signed ones (number (low_first k (twos ones z))) ≡ z
+  back : (z : ℤ) → in_range half (half - 1) z ≡ true → signed ones (number (low_first k (twos ones z))) ≡ z
   back (pos n) t =
       let g : n ≤ half - 1 = leb-true n (half - 1) t in
       let b : leb (2 * n) ones ≡ true = le-leb (2 * n) ones (omega arith) in

@@ -1,18 +1,18 @@
 -- Laws of the text of A and ST.
 use Prim.Native.Nat.{ℕ, suc, ◌+◌, ◌-◌, ◌%◌, ◌≤◌, ◌<◌, min}
-use mathlib.Core.Path.{◌≡◌, ap, ap₂, sym, ◌∙◌}
+use mathlib.Core.Path.{◌≡◌, refl, ap, ap₂, sym, ◌∙◌}
 use mathlib.Core.List.{List, [], ◌∷◌, ◌++◌, append_assoc, append-nil}
-use mathlib.Core.Bool.{true, false}
+use mathlib.Core.Bool.{Bool, true, false, cond}
 use native.Mathlib.Nat.{zero-add}
 use native.Mathlib.Omega.{arith}
-use borrow.Author.Tests.{lt-ltb, le-ltb}
-use lib.Dec.{ltb}
-use lib.ListN.{length, take, drop, get_or, replicate, length-append, length-take, length-replicate, drop_of_length-le}
+use borrow.Author.Tests.{lt-ltb, le-ltb, leb-true, leb-false}
+use lib.Dec.{leb, ltb}
+use lib.ListN.{length, take, drop, get_or, replicate, length-append, length-take, length-drop, length-replicate, drop_of_length-le}
 use lib.Seq.{length-take-le, take_all, take_at, drop_at}
 use Rattle.base.specs.Numbers.{low_first}
 use Rattle.base.specs.Put.{put, Puts}
 use Rattle.base.proofs.Numbers.{low_length, low_zero}
-use Rattle.base.proofs.Parts.{drop_replicate, take_least}
+use Rattle.base.proofs.Parts.{drop_replicate}
 use Rattle.base.proofs.Put.{puts_both, put_first, put_rest, put_length}
 use Rattle.element_text.specs.declared.Swapped.TheVariants as swapped
 use Rattle.element_text.specs.Text.{swap_pairs, padded_swap, fitted, ascii_text, string_text, written_of, out_of}
@@ -27,7 +27,7 @@ ascii_is (x ∷ y ∷ s) a b e f =
     rw n (ap₂ (λ (x y : ℕ). x ∷ y ∷ []) e f)
 
 -- ---- lengths
-pub fitted_length : (n fill : ℕ) (s : List ℕ) → length (fitted n fill s) ≡ n
+fitted_length : (n fill : ℕ) (s : List ℕ) → length (fitted n fill s) ≡ n
 unfolding fitted
 fitted_length n fill s = rw (length-append, length-take, length-replicate) (omega arith)
 
@@ -76,7 +76,11 @@ module _ (s : List ℕ) (n : ℕ) (e : n ≡ min 82 (length s)) where
   cut_length = length-take-le n s (omega arith)
 
   cut : take n s ≡ take 82 s
-  cut = take_least s 82 n e
+  cut = go (leb (length s) 82) refl
+    where
+      go : (t : Bool) → leb (length s) 82 ≡ t → take n s ≡ take 82 s
+      go true h = let k : length s ≤ 82 = leb-true (length s) 82 h in take_all n s (omega arith) ∙ sym (take_all 82 s k)
+      go false h = let k : n ≡ 82 = omega (arith, leb-false (length s) 82 h) in rw k
 
   text : take n s ++ drop (2 + n) (replicate 84 0) ≡ fitted 82 0 s
   unfolding fitted

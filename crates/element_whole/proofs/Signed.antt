@@ -1,5 +1,5 @@
 -- Laws of whole numbers in two's complement, over the width.
-use Prim.Native.Nat.{ℕ, zero, suc, ◌+◌, ◌-◌, ◌*◌, ◌%◌, ◌^◌, ◌≤◌, ◌<◌}
+use Prim.Native.Nat.{ℕ, zero, suc, ◌+◌, ◌-◌, ◌*◌, ◌^◌, ◌≤◌, ◌<◌}
 use mathlib.Core.Path.{◌≡◌, refl, ap, sym, subst, ◌∙◌}
 use mathlib.Core.Bool.{Bool, true, false, not, cond}
 use native.Mathlib.Nat.{zero-add}
@@ -10,10 +10,10 @@ use lib.IntN.{ℤ, pos, negsuc, neg_ℤ, nat_abs, ◌+ℤ◌, ◌-ℤ◌, +ℤ_i
 use lib.Signed.{mag, lt_z, non_neg}
 use mir.Syntax.{Width, w16, w32, w64}
 use mir.Val.{Fits, SFits, hbits, to_z, of_z}
-use mir.ValLaws.{to_z_pos, to_z-of_z, of_z_fits}
+use mir.ValLaws.{to_z_pos, to_z-of_z}
 use Rattle.element_whole.specs.declared.Bits.TheVariants as bits
 use Rattle.element_whole.specs.declared.Parted.{Parted}
-use Rattle.element_whole.specs.Whole.{in_range, twos, low_half, signed, bits_of, is_zero, joined}
+use Rattle.element_whole.specs.Whole.{in_range, twos, signed, bits_of, is_zero, joined}
 
 -- −1 less a number: n and −(n + 1) change places
 minus_pos : (m : ℕ) → negsuc 0 -ℤ pos m ≡ negsuc m
@@ -46,46 +46,35 @@ module _ (w : Width) (ones n : ℕ) (half : suc ones ≡ 2 * 2 ^ hbits w) where
         let t : leb (2 * n) ones ≡ false = lt-leb (2 * n) ones (omega arith) in
         ap (λ (z : ℤ). to_z w (of_z w z)) negated ∙ to_z-of_z w (negsuc (ones - n)) small ∙ rw t
 
--- ---- a number's sign and size, over the width
--- `x` is a number that a number of this width can be cast to without loss, and `n` is what `f` makes of it
-pub record Cast (w : Width) (x n : ℤ) (f : ℕ → ℤ) : Type 0 where
-  pub fits : SFits w x
-  pub cast : T (non_neg (to_z w (of_z w x))) × Fits w (nat_abs (to_z w (of_z w x)))
-  pub small : nat_abs (to_z w (of_z w x)) < 2 ^ hbits w
-  pub same : n ≡ f (nat_abs (to_z w (of_z w x)))
+-- ---- a number's sign and size
+-- `x` is a number that a 64-bit number can be cast to without loss, and `n` is what `f` makes of it
+pub record Cast (x n : ℤ) (f : ℕ → ℤ) : Type 0 where
+  pub fits : SFits w64 x
+  pub cast : T (non_neg (to_z w64 (of_z w64 x))) × Fits w64 (nat_abs (to_z w64 (of_z w64 x)))
+  pub same : n ≡ f (nat_abs (to_z w64 (of_z w64 x)))
 
-module _ (w : Width) where
-  cast_pos : (m : ℕ) (f : ℕ → ℤ) → m < 2 ^ hbits w → Cast w (pos m) (f m) f
-  cast_pos m f h =
-      let e : to_z w m ≡ pos m = to_z_pos w m h in record {
-        fits = record { sfits = h };
-        cast = rw e (tt, of_z_fits w (pos m) (record { sfits = h }));
-        small = rw e h;
-        same = rw e;
-      }
+cast_pos : (m : ℕ) (f : ℕ → ℤ) → m < 2 ^ 63 → Cast (pos m) (f m) f
+cast_pos m f h =
+    let e : to_z w64 m ≡ pos m = to_z_pos w64 m h in record {
+      fits = record { sfits = h };
+      cast = rw e (tt, record { fits = omega arith });
+      same = rw e;
+    }
 
-  negative : (n : ℤ) → SFits w n → lt_z n (pos 0) ≡ true → Cast w (negsuc 0 -ℤ n) n negsuc
-  negative (pos m) g t = let z : m < 0 = ltb-true m 0 t in absurd (omega arith)
-  negative (negsuc m) g t = subst (λ (x : ℤ). Cast w x (negsuc m) negsuc) (sym (minus_neg m)) (cast_pos m negsuc g.sfits)
+negative : (n : ℤ) → SFits w64 n → lt_z n (pos 0) ≡ true → Cast (negsuc 0 -ℤ n) n negsuc
+negative (pos m) g t = let z : m < 0 = ltb-true m 0 t in absurd (omega arith)
+negative (negsuc m) g t = subst (λ (x : ℤ). Cast x (negsuc m) negsuc) (sym (minus_neg m)) (cast_pos m negsuc g.sfits)
 
-  positive : (n : ℤ) → SFits w n → lt_z n (pos 0) ≡ false → Cast w n n pos
-  positive (pos m) g t = cast_pos m pos g.sfits
-  positive (negsuc m) g t = let z : ◌≡◌ {A = ℕ} 0 1 = cc in absurd (omega arith)
+positive : (n : ℤ) → SFits w64 n → lt_z n (pos 0) ≡ false → Cast n n pos
+positive (pos m) g t = cast_pos m pos g.sfits
+positive (negsuc m) g t = let z : ◌≡◌ {A = ℕ} 0 1 = cc in absurd (omega arith)
 
-  module _ (n : ℤ) (g : SFits w n) where
-    pub part_negative : lt_z (to_z w (of_z w n)) (pos 0) ≡ true → Cast w (negsuc 0 -ℤ to_z w (of_z w n)) n negsuc
-    part_negative = subst (λ (x : ℤ). lt_z x (pos 0) ≡ true → Cast w (negsuc 0 -ℤ x) n negsuc) (sym (to_z-of_z w n g)) (negative n g)
+module _ (n : ℤ) (g : SFits w64 n) where
+  pub part_negative : lt_z (to_z w64 (of_z w64 n)) (pos 0) ≡ true → Cast (negsuc 0 -ℤ to_z w64 (of_z w64 n)) n negsuc
+  part_negative = subst (λ (x : ℤ). lt_z x (pos 0) ≡ true → Cast (negsuc 0 -ℤ x) n negsuc) (sym (to_z-of_z w64 n g)) (negative n g)
 
-    pub part_positive : lt_z (to_z w (of_z w n)) (pos 0) ≡ false → Cast w n n pos
-    part_positive = subst (λ (x : ℤ). lt_z x (pos 0) ≡ false → Cast w n n pos) (sym (to_z-of_z w n g)) (positive n g)
-
--- ---- the bits of a word or a long
-module _ {w : Width} {x n : ℤ} (ones : ℕ) where
-  pub bits_negative : Cast w x n negsuc → ones - nat_abs (to_z w (of_z w x)) ≡ twos ones n
-  bits_negative c = ap (twos ones) (sym c.same)
-
-  pub bits_positive : Cast w x n pos → nat_abs (to_z w (of_z w x)) ≡ twos ones n
-  bits_positive c = ap (twos ones) (sym c.same)
+  pub part_positive : lt_z (to_z w64 (of_z w64 n)) (pos 0) ≡ false → Cast n n pos
+  part_positive = subst (λ (x : ℤ). lt_z x (pos 0) ≡ false → Cast n n pos) (sym (to_z-of_z w64 n g)) (positive n g)
 
 -- ---- the bits of a number, by its parts
 -- (a signed number is handed on as its bits, and read again)
@@ -120,12 +109,3 @@ module _ (n : ℤ) (p : Parted) (f : SFits w64 n) (e : to_z w64 (of_z w64 n) ≡
   pub zero_by : p.negative ≡ false → eqb p.size 0 ≡ is_zero n
   unfolding is_zero
   zero_by t = rw (above 0 0 0 n p f e t)
-
-  -- the low half of a number
-  pub half_negative : p.negative ≡ true → (18446744073709551615 - p.size) % 4294967296 ≡ low_half n
-  unfolding low_half
-  half_negative t = rw (below 0 0 0 n p f e t)
-
-  pub half_positive : p.negative ≡ false → p.size % 4294967296 ≡ low_half n
-  unfolding low_half
-  half_positive t = rw (above 0 0 0 n p f e t)

@@ -1,5 +1,5 @@
 -- Whole numbers in words and longs, over the width: `ones` is the largest number of the width (document 01, module 2).
-use Rattle.std.specs.Prelude.{ℕ, ◌-◌, ◌*◌, ◌%◌, Bool, true, false, cond, leb, ltb, eqb, ℤ, pos, negsuc}
+use Rattle.std.specs.Prelude.{ℕ, ◌-◌, ◌*◌, Bool, true, false, cond, leb, ltb, eqb, ℤ, pos, negsuc}
 use Rattle.element_whole.specs.declared.Bits.{Bits}
 use Rattle.element_whole.specs.declared.Bits.TheVariants as bits
 use Rattle.element_whole.specs.declared.Parted.{Parted}
@@ -13,10 +13,6 @@ in_range low high (negsuc n) = ltb n low
 abbrev pub twos : ℕ → ℤ → ℕ
 twos ones (pos n) = n
 twos ones (negsuc n) = ones - n
-
--- float bits by a 64-bit number: "in the low half" of it (slc_link.h)
-unfoldable pub low_half : ℤ → ℕ
-low_half z = twos 0xFFFFFFFFFFFFFFFF z % 0x100000000
 
 -- "all words and longs read signed": the upper half of the numbers stands for the negative ones
 abbrev pub signed : ℕ → ℕ → ℤ

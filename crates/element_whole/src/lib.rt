@@ -1,6 +1,6 @@
 // Whole numbers and their bits in two's complement.
 ghost use Rattle.std.specs.Prelude.{◌≡◌, ◌-◌};
-ghost use Rattle.element_whole.specs.Whole.{joined, bits_of, is_zero as whole_is_zero, signed, twos, low_half};
+ghost use Rattle.element_whole.specs.Whole.{joined, bits_of, is_zero as whole_is_zero, signed};
 
 // A number's sign, and n of n or of -(n + 1).
 #[derive(Drop)]
@@ -42,38 +42,6 @@ pub fn signed_long(l: u32) -> i32
         return l as i32;
     }
     -1 - ((0xFFFF_FFFF - l) as i32)
-}
-
-// The bits in two's complement of a number that a word holds.
-pub fn word_bits(n: i16) -> u16
-    ensures { result ≡ twos 0xFFFF n }
-{
-    if n < 0 {
-        return 0xFFFF - ((-1 - n) as u16);
-    }
-    n as u16
-}
-
-// The bits in two's complement of a number that a long holds.
-pub fn long_bits(n: i32) -> u32
-    ensures { result ≡ twos 0xFFFFFFFF n }
-{
-    if n < 0 {
-        return 0xFFFF_FFFF - ((-1 - n) as u32);
-    }
-    n as u32
-}
-
-// The low 32 bits of a number in two's complement.
-pub fn low_half(n: i64) -> u32
-    ensures { result ≡ low_half n }
-{
-    let p = apart(n);
-    let size = p.size;
-    if p.negative {
-        return ((0xFFFF_FFFF_FFFF_FFFF - size) % 0x1_0000_0000) as u32;
-    }
-    (size % 0x1_0000_0000) as u32
 }
 
 // The bits of a number, where it is in range.

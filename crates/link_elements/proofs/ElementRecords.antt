@@ -1,12 +1,12 @@
 -- Values and elements in numbers.
-use Prim.Native.Nat.{ℕ, ◌≤◌, ◌<◌}
+use Prim.Native.Nat.{ℕ, ◌-◌, ◌%◌, ◌≤◌, ◌<◌}
 use mathlib.Core.Path.{◌≡◌, refl, ap, ap₂, sym, subst, ◌∙◌}
-use mathlib.Core.Bool.{cond}
+use mathlib.Core.Bool.{Bool, true, false, cond}
 use mathlib.Core.List.{List}
 use native.Mathlib.Omega.{arith}
 use borrow.Author.Tests.{eq-eqb, ne_eqb}
 use lib.Dec.{ltb}
-use lib.IntN.{ℤ}
+use lib.IntN.{ℤ, pos, negsuc}
 use lib.ListN.{length}
 use mir.Syntax.{w16, w32, w64}
 use mir.Val.{SFits, to_z, of_z}
@@ -23,10 +23,24 @@ use Rattle.element_spec.specs.declared.Value.TheVariants as value
 use Rattle.element_spec.specs.Encode.{kind_of, encode_as, encoded, Stores}
 use Rattle.file_type.specs.declared.FileType.{FileType}
 use Rattle.file_type.specs.Table.{row}
-use Rattle.element_whole.specs.Whole.{low_half}
+use Rattle.element_whole.specs.declared.Parted.{Parted}
+use Rattle.element_whole.specs.Whole.{twos, joined}
 use Rattle.link_elements.specs.declared.SlcElement.{SlcElement}
 use Rattle.link_elements.specs.declared.SlcValue.{SlcValue}
-use Rattle.link_elements.specs.ElementRecords.{misfit_for, misfit_of, value_of, stored_number, refusal_of, numbers_of, StoresInNumbers, ReadsInNumbers}
+use Rattle.link_elements.specs.ElementRecords.{low_half, misfit_for, misfit_of, value_of, stored_number, refusal_of, numbers_of, StoresInNumbers, ReadsInNumbers}
+
+-- ---- the low half of a number
+module _ (n : ℤ) (p : Parted) (f : SFits w64 n) (e : to_z w64 (of_z w64 n) ≡ joined p) where
+  half : (b : Bool) → p.negative ≡ b → twos 18446744073709551615 (cond b (negsuc p.size) (pos p.size)) % 4294967296 ≡ low_half n
+  unfolding low_half
+  half b t =
+      sym (ap (λ (z : ℤ). twos 18446744073709551615 z % 4294967296) (sym (to_z-of_z w64 n f) ∙ e ∙ ap (λ (x : Bool). cond x (negsuc p.size) (pos p.size)) t))
+
+  pub half_negative : p.negative ≡ true → (18446744073709551615 - p.size) % 4294967296 ≡ low_half n
+  half_negative t = half true t
+
+  pub half_positive : p.negative ≡ false → p.size % 4294967296 ≡ low_half n
+  half_positive t = half false t
 
 -- ---- values
 pub is_misfit : (k : ElementKind) (t : FileType) (x : ElementKind) → x ≡ kind_of t → x ≡ k → misfit_for k ≡ misfit_of t

@@ -1,6 +1,6 @@
 -- Values and elements in the numbers of the C interface (slc_link.h). A kind is 0 for a whole number, 1 for float bits, 2 for text, 3 for three
 -- words, 4 for a field.
-use Rattle.std.specs.Prelude.{ℕ, ◌≡◌, cond, List, eqb, ℤ, pos, length}
+use Rattle.std.specs.Prelude.{ℕ, ◌%◌, ◌≡◌, cond, List, eqb, ℤ, pos, length}
 use Rattle.base.specs.Outcome.{Outcome, refused, left}
 use Rattle.element_spec.specs.declared.Element.{Element}
 use Rattle.element_spec.specs.declared.Element.TheVariants as element
@@ -15,9 +15,13 @@ use Rattle.element_spec.specs.Encode.{kind_of, encoded, stored_of}
 use Rattle.file_type.specs.declared.FileType.{FileType}
 use Rattle.file_type.specs.declared.Known.{Known}
 use Rattle.file_type.specs.declared.Known.TheVariants as known
-use Rattle.element_whole.specs.Whole.{low_half}
+use Rattle.element_whole.specs.Whole.{twos}
 use Rattle.link_elements.specs.declared.SlcElement.{SlcElement}
 use Rattle.link_elements.specs.declared.SlcValue.{SlcValue}
+
+-- "the bits, in the low half of a"
+unfoldable pub low_half : ℤ → ℕ
+low_half z = twos 0xFFFFFFFFFFFFFFFF z % 0x100000000
 
 -- a value that doesn't suit the type, which a value of an unknown kind stands for, so that it is refused with 20 behind 19 (proofs/ElementRecords.antt, `other_kind`);
 -- text suits A and ST alone

@@ -2,7 +2,7 @@
 ghost use Rattle.std.specs.Prelude.{◌≡◌, length};
 ghost use Rattle.element_spec.specs.Decode.{decoded};
 ghost use Rattle.element_spec.specs.Encode.{encoded};
-ghost use Rattle.link_elements.specs.ElementRecords.{misfit_of, value_of, stored_number, refusal_of, numbers_of, StoresInNumbers, ReadsInNumbers};
+ghost use Rattle.link_elements.specs.ElementRecords.{low_half, misfit_of, value_of, stored_number, refusal_of, numbers_of, StoresInNumbers, ReadsInNumbers};
 
 use element_spec::kind::ElementKind;
 use element_spec::{Element, Stored, Value};
@@ -42,6 +42,18 @@ pub struct SlcElement {
     pub status: u16,
 }
 
+// The low 32 bits of a number in two's complement.
+fn low_half(n: i64) -> u32
+    ensures { result ≡ low_half n }
+{
+    let p = element_whole::apart(n);
+    let size = p.size;
+    if p.negative {
+        return ((0xFFFF_FFFF_FFFF_FFFF - size) % 0x1_0000_0000) as u32;
+    }
+    (size % 0x1_0000_0000) as u32
+}
+
 // A value that doesn't suit the type.
 fn misfit(t: FileType) -> Value
     ensures { result ≡ misfit_of t }
@@ -67,7 +79,7 @@ pub fn value_of(t: FileType, v: SlcValue) -> Value
         return Value::Whole(v.a);
     }
     if kind == FLOAT {
-        return Value::Float(element_whole::low_half(v.a));
+        return Value::Float(low_half(v.a));
     }
     if kind == TEXT {
         return Value::Text;

@@ -1,4 +1,3 @@
-pub mod KindRows
 pub mod OfKind
 pub mod RequestRecords
 pub mod RequestAnswers

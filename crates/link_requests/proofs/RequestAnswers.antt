@@ -2,10 +2,6 @@
 use Prim.Native.Nat.{ℕ}
 use mathlib.Core.Path.{◌≡◌, ap, ◌∙◌}
 use mathlib.Core.List.{List}
-use lib.IntN.{ℤ}
-use mir.Syntax.{w64}
-use mir.Val.{SFits, to_z, of_z}
-use mir.ValLaws.{to_z-of_z}
 use Rattle.address_spec.specs.declared.Parsed.{Parsed}
 use Rattle.address_readings.specs.declared.Reading.{Reading}
 use Rattle.address_readings.specs.Readings.{address_in}
@@ -35,14 +31,11 @@ module _ (n : ℕ) (tag : List ℕ) {ρ : Reading} (d : ρ ≡ reading_of n) whe
   asks_reading q sequence b h = rw (← d) (asks b h)
 
 -- a write by the number of its kind
-told : (n : ℕ) (z : ℤ) (f : SFits w64 z) {k : WriteKind} → k ≡ kind_of n (to_z w64 (of_z w64 z)) → k ≡ kind_of n z
-told n z f e = e ∙ ap (kind_of n) (to_z-of_z w64 z f)
-
-module _ (n i : ℕ) (z : ℤ) (tag s : List ℕ) (q : Requestor) (sequence : ℕ) (l : List ℕ) (f : SFits w64 z) {ρ : Reading} {k : WriteKind} {m : Request} {r : SlcRequest}
-    (d : ρ ≡ reading_of i) (e : k ≡ kind_of n (to_z w64 (of_z w64 z))) (h : r ≡ request_record m) where
+module _ (n i : ℕ) (tag s : List ℕ) (q : Requestor) (sequence : ℕ) (l : List ℕ) {ρ : Reading} {k : WriteKind} {m : Request} {r : SlcRequest} (d : ρ ≡ reading_of i) (e : k ≡ kind_of n)
+    (h : r ≡ request_record m) where
   pub asks_kind : {l' : List ℕ} (v : WriteValue) → k ≡ kind.Is v → Builds (writing tag ρ v s q sequence l) l m l'
-      → Asks (writing_kind (kind_of n z) tag (reading_of i) s q sequence l) l r l'
-  asks_kind v j b = rw (← d, ← told n z f e, j) (asks b h)
+      → Asks (writing_kind (kind_of n) tag (reading_of i) s q sequence l) l r l'
+  asks_kind v j b = rw (← d, ← e, j) (asks b h)
 
-  pub asks_none : k ≡ kind.Unknown → m ≡ request_of (unsuited tag ρ) → Asks (writing_kind (kind_of n z) tag (reading_of i) s q sequence l) l r l
-  asks_none j b = rw (← d, ← told n z f e, j) (asks (record { answer = b; now = unsuited_left tag ρ l }) h)
+  pub asks_none : k ≡ kind.Unknown → m ≡ request_of (unsuited tag ρ) → Asks (writing_kind (kind_of n) tag (reading_of i) s q sequence l) l r l
+  asks_none j b = rw (← d, ← e, j) (asks (record { answer = b; now = unsuited_left tag ρ l }) h)

@@ -59,7 +59,7 @@ fn is_there(n: Maybe) -> u8
     }
 }
 
-pub fn full_address(x: Address) -> SlcAddress
+fn full_address(x: Address) -> SlcAddress
     ensures { result ≡ full_address x }
 {
     let t = x.file_type;

@@ -33,8 +33,6 @@ questions =
     ∷ (24, bytes "Has the text memory 82 bytes?")
     ∷ (25, bytes "Has the reply 63 bytes?")
     ∷ (26, bytes "Is the offset at most 65,535?")
-    ∷ (27, bytes "Can values be read from the reply's data?")
-    ∷ (28, bytes "Is there a value with this index?")
     ∷ (39, bytes "Is a timer's or counter's separator in a new entry a full stop or a slash?")
     ∷ []
 

@@ -36,8 +36,8 @@ Is the text for ST at most 82 bytes?
 Has the text memory 82 bytes?
 Has the reply 63 bytes?
 Is the offset at most 65,535?
-Can values be read from the reply's data?
-Is there a value with this index?
+
+
 
 
 

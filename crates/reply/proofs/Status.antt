@@ -17,7 +17,7 @@ use Rattle.reply_status_text.specs.declared.StatusText.TheVariants as statusText
 use Rattle.reply_status_text.specs.Texts.{text_of, Tells}
 use Rattle.reply_status_text.proofs.StatusTexts.{told}
 use Rattle.reply_part.specs.Part.{of_raw, of_reply, data_of}
-use Rattle.reply_part.proofs.Parts.{one_part_lem}
+use Rattle.reply_part.proofs.Parts.{one_part}
 use Rattle.reply.specs.Status.{digit, in_hex, first, named, extended, said, status_in, status_text, reply_status, datalog_entry, reply_datalog}
 
 -- ---- a byte in hexadecimal
@@ -167,7 +167,7 @@ part_told {p} {q} {l} {m} {r} e w = subst (λ (x : List ℕ). Tells (status_in x
 -- ---- the two forms are one: an id of 7 bytes behind 50 bytes of anything
 module _ (h s : List ℕ) (e : length h ≡ 50) where
   pub one_status : reply_status (7 ∷ s) ≡ status_text (h ++ (7 ∷ s))
-  one_status = ap status_in (sym (one_part_lem h s e))
+  one_status = ap status_in (sym (one_part h s e))
 
   pub one_datalog : reply_datalog (7 ∷ s) ≡ datalog_entry (h ++ (7 ∷ s))
-  one_datalog = ap data_of (sym (one_part_lem h s e))
+  one_datalog = ap data_of (sym (one_part h s e))

@@ -38,7 +38,7 @@ pub fn read_request(
     }
 }
 
-// The message that writes a value to what a tag names; `bytes` are the raw bytes (mask word and data) or the text, and other values don't look at them. Refused with 1, 2, 39 (a new entry only), and 3 to 6.
+// The message that writes a value to what a tag names; `bytes` are the raw bytes (mask word and data) or the text. Refused with 1, 2, 39 (a new entry only), and 3 to 6.
 pub fn write_request(
     tag: &[u8],
     reading: Reading,

@@ -1,4 +1,3 @@
-pub mod NumberRows
 pub mod ElementsTold
 pub mod RequestQuestions
 pub mod RequestRows

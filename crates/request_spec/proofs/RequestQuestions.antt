@@ -6,9 +6,8 @@ use native.Mathlib.Nat.{mul-le-mul_right}
 use native.Mathlib.Omega.{arith}
 use mir.Syntax.{w64}
 use mir.Val.{Fits}
-use borrow.Author.Tests.{le-leb, lt-leb, eq-eqb, ne_eqb, not-true, not-false}
+use borrow.Author.Tests.{le-leb, lt-leb, eq-eqb, ne_eqb}
 use lib.Dec.{leb, ltb, eqb}
-use lib.IntN.{ℤ}
 use Rattle.file_type.specs.Table.{row}
 use Rattle.file_type.proofs.FileTypes.{size_some, size_most}
 use Rattle.address_spec.specs.declared.Address.{Address}
@@ -16,7 +15,7 @@ use Rattle.address_spec.specs.Elements.{Elements, elements_of}
 use Rattle.address_spec.specs.Spelling.{or_zero}
 use Rattle.request_frame.specs.declared.Target.{Target}
 use Rattle.request_spec.specs.SizeAnswers.{size_of, data_size_of}
-use Rattle.request_spec.specs.Request.{bit_and_count, place, read_size, preset_or_accum, bit_suits, text_suits, word_type, word_suits, long_suits, float_suits, suits, last_address}
+use Rattle.request_spec.specs.Request.{bit_and_count, place, read_size, preset_or_accum, bit_suits, text_suits, suits, last_address}
 use Rattle.request_spec.specs.declared.WriteValue.{WriteValue}
 use Rattle.request_spec.specs.declared.WriteValue.TheVariants as value
 use Rattle.request_spec.specs.declared.Size.{Size}
@@ -102,52 +101,6 @@ module _ (x : Address) {code : ℕ} {b : Bool} (c : code ≡ (row x.file_type).c
     unfolding text_suits
     text h = rw (← c, ← e, h)
 
--- a word's types
-module _ (x : Address) {code : ℕ} (c : code ≡ (row x.file_type).code) where
-  pub word_n : code ≡ 0x89 → true ≡ word_type x
-  unfolding word_type
-  word_n h = rw (← c, h)
-
-  module _ (h : code ≡ 0x89 → ⊥) {b : Bool} (d : b ≡ (eqb code 0x85 || eqb code 0x84)) where
-    pub word_b_s : b ≡ true → true ≡ word_type x
-    unfolding word_type
-    word_b_s g = rw (← c, ne_eqb code 0x89 h, ← d, g)
-
-    pub word_o_i : b ≡ false → {r : Bool} → r ≡ (eqb code 0x82 || eqb code 0x83) → r ≡ word_type x
-    unfolding word_type
-    word_o_i g q = rw (← c, ne_eqb code 0x89 h, ← d, g) q
-
--- a number of a type, without a bit, with count 0 or 1
-module _ (t b : Bool) (n : ℕ) where
-  pub other_type : not t ≡ true → false ≡ (t && not b && leb n 1)
-  other_type h = rw (not-true t h)
-
-  module _ (h : not t ≡ false) where
-    pub has_bit : b ≡ true → false ≡ (t && not b && leb n 1)
-    has_bit g = rw (not-false t h, g)
-
-    pub without_bit : b ≡ false → leb n 1 ≡ (t && not b && leb n 1)
-    without_bit g = rw (not-false t h, g)
-
-module _ (x : Address) {r : Bool} where
-  module _ {p : Bool} (e : p ≡ preset_or_accum x) where
-    pub word_of_timer : p ≡ true → r ≡ leb x.element_count 1 → r ≡ word_suits x
-    unfolding word_suits
-    word_of_timer h q = rw (← e, h) q
-
-    pub word_of_element : p ≡ false → {t : Bool} → t ≡ word_type x → r ≡ (t && not x.bit && leb x.element_count 1) → r ≡ word_suits x
-    unfolding word_suits
-    word_of_element h d q = rw (← e, h, ← d) q
-
-  module _ {code : ℕ} (c : code ≡ (row x.file_type).code) where
-    pub long_of_element : r ≡ (eqb code 0x91 && not x.bit && leb x.element_count 1) → r ≡ long_suits x
-    unfolding long_suits
-    long_of_element q = rw (← c) q
-
-    pub float_of_element : r ≡ (eqb code 0x8A && not x.bit && leb x.element_count 1) → r ≡ float_suits x
-    unfolding float_suits
-    float_of_element q = rw (← c) q
-
 module _ (x : Address) where
   pub not_bit : x.bit ≡ false → false ≡ bit_suits x
   unfolding bit_suits
@@ -172,15 +125,3 @@ module _ (x : Address) where
     pub suits_text : v ≡ value.Text → r ≡ text_suits x → r ≡ suits v x
     unfolding suits
     suits_text h e = rw h e
-
-    pub suits_word : (z : ℤ) → v ≡ value.Word z → r ≡ word_suits x → r ≡ suits v x
-    unfolding suits
-    suits_word z h e = rw h e
-
-    pub suits_long : (z : ℤ) → v ≡ value.Long z → r ≡ long_suits x → r ≡ suits v x
-    unfolding suits
-    suits_long z h e = rw h e
-
-    pub suits_float : (n : ℕ) → v ≡ value.Float n → r ≡ float_suits x → r ≡ suits v x
-    unfolding suits
-    suits_float n h e = rw h e

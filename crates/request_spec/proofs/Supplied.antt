@@ -1,13 +1,12 @@
 -- Mask word and data.
-use Prim.Native.Nat.{ℕ, zero, suc, ◌+◌, ◌-◌, ◌*◌, ◌/◌, ◌%◌, ◌^◌, ◌≤◌, ◌<◌}
+use Prim.Native.Nat.{ℕ, ◌+◌, ◌-◌, ◌/◌, ◌%◌, ◌≤◌, ◌<◌}
 use mathlib.Core.Path.{◌≡◌, refl, ap, sym, subst, ◌∙◌}
 use mathlib.Core.Bool.{Bool, true, false, ◌&&◌, cond}
 use mathlib.Core.List.{List, [], ◌∷◌, ◌++◌}
-use native.Mathlib.Nat.{zero-add, mod-eq_of_lt, div-lt_iff_lt-mul, mul_comm, mul_assoc, pow-suc}
+use native.Mathlib.Nat.{mod-eq_of_lt}
 use native.Mathlib.Omega.{arith}
 use borrow.Author.Tests.{le-leb, lt-leb}
-use lib.Dec.{leb, eqb, lit≤}
-use lib.IntN.{ℤ}
+use lib.Dec.{leb, eqb}
 use lib.ListN.{length, get_or, length-append}
 use Rattle.base.specs.Masks.{bit_mask}
 use Rattle.base.specs.Numbers.{low_first}
@@ -18,14 +17,10 @@ use Rattle.base.proofs.Put.{Lays, lays, then, puts_room, puts_full}
 use Rattle.file_type.specs.Table.{row}
 use Rattle.element_text.specs.Text.{ascii_text, string_text}
 use Rattle.element_text.proofs.Text as swap-text
-use Rattle.element_whole.specs.Whole.{twos}
-use mir.Syntax.{Width, w16, w32}
-use mir.Val.{SFits, to_z, of_z}
-use mir.ValLaws.{to_z-of_z}
 use Rattle.address_spec.specs.declared.Address.{Address}
 use Rattle.address_spec.specs.Spelling.{or_zero}
 use Rattle.request_spec.specs.SizeAnswers.{data_size_of}
-use Rattle.request_spec.specs.Request.{is_ascii, bit_data, text_data, number_data, supplied}
+use Rattle.request_spec.specs.Request.{is_ascii, bit_data, text_data, supplied}
 use Rattle.request_spec.specs.declared.WriteValue.{WriteValue}
 use Rattle.request_spec.specs.declared.WriteValue.TheVariants as value
 use Rattle.request_spec.specs.declared.Size.TheVariants as size
@@ -73,49 +68,6 @@ module _ (s : List ℕ) (x : Address) {v : WriteValue} where
 
     pub text_laid : {l m : List ℕ} {at r : ℕ} → Puts l at (text_data a s) r m → Puts l at (supplied v s x) r m
     text_laid w = rw text w
-
-  word : (z : ℤ) → v ≡ value.Word z → supplied v s x ≡ number_data 2 (twos 0xFFFF z)
-  unfolding supplied
-  word z h = rw h
-
-  long : (z : ℤ) → v ≡ value.Long z → supplied v s x ≡ number_data 4 (twos 0xFFFFFFFF z)
-  unfolding supplied
-  long z h = rw h
-
-  float : (n : ℕ) → v ≡ value.Float n → supplied v s x ≡ number_data 4 n
-  unfolding supplied
-  float n h = rw h
-
--- a number of k bytes, over the width
-number_length : (k n : ℕ) {d : List ℕ} → d ≡ number_data k n → 2 + k ≡ length d
-unfolding number_data
-number_length k n e = rw e (simp (length-append, low_length))
-
--- (a signed number is handed on as its bits, and read again)
-number_of : (w : Width) (k ones : ℕ) {z : ℤ} {d l m : List ℕ} {at r b : ℕ} → d ≡ number_data k (twos ones z) → SFits w z → b ≡ twos ones (to_z w (of_z w z)) → Puts l at (number_data k b) r m → Puts l at d r m
-number_of w k ones {z} e f h p = rw (e, ← to_z-of_z w z f, ← h) p
-
-module _ (s : List ℕ) (x : Address) {v : WriteValue} where
-  module _ (z : ℤ) (h : v ≡ value.Word z) where
-    pub word_length : ◌≡◌ {A = ℕ} 4 (length (supplied v s x))
-    word_length = number_length 2 (twos 0xFFFF z) (word s x z h)
-
-    pub word_laid : {l m : List ℕ} {at r b : ℕ} → SFits w16 z → b ≡ twos 0xFFFF (to_z w16 (of_z w16 z)) → Puts l at (number_data 2 b) r m → Puts l at (supplied v s x) r m
-    word_laid = number_of w16 2 0xFFFF (word s x z h)
-
-  module _ (z : ℤ) (h : v ≡ value.Long z) where
-    pub long_length : ◌≡◌ {A = ℕ} 6 (length (supplied v s x))
-    long_length = number_length 4 (twos 0xFFFFFFFF z) (long s x z h)
-
-    pub long_laid : {l m : List ℕ} {at r b : ℕ} → SFits w32 z → b ≡ twos 0xFFFFFFFF (to_z w32 (of_z w32 z)) → Puts l at (number_data 4 b) r m → Puts l at (supplied v s x) r m
-    long_laid = number_of w32 4 0xFFFFFFFF (long s x z h)
-
-  module _ (n : ℕ) (h : v ≡ value.Float n) where
-    pub float_length : ◌≡◌ {A = ℕ} 6 (length (supplied v s x))
-    float_length = number_length 4 n (float s x n h)
-
-    pub float_laid : {l m : List ℕ} {at r : ℕ} → Puts l at (number_data 4 n) r m → Puts l at (supplied v s x) r m
-    float_laid w = rw (float s x n h) w
 
 -- ---- the size field
 module _ {n k : ℕ} (e : n ≡ k) where
@@ -169,21 +121,3 @@ module _ {l : List ℕ} {at : ℕ} (s : List ℕ) where
       let w : Lays l at ((0xFF ∷ 0xFF ∷ []) ++ d) t k = then (lays a) (lays c) in
       let q : (0xFF ∷ 0xFF ∷ []) ++ d ≡ text_data false s = string_is s d e in
       puts_room 86 (string_count s) (omega arith) (subst (λ (x : List ℕ). Wrote l at x t k) q (w.room (rw (ap length q, string_count s) (omega arith))))
-
--- a number behind one of i bytes: the bytes of both are those of one number
-both : (i k m n : ℕ) → m < 256 ^ i → low_first (i + k) (m + 256 ^ i * n) ≡ low_first i m ++ low_first k n
-unfolding low_first
-both zero k m n h =
-    let e : m + 256 ^ 0 * n ≡ n = omega arith in
-    rw (zero-add k, e)
-both (suc i) k m n h =
-    let g : m / 256 < 256 ^ i = (div-lt_iff_lt-mul (lit≤ tt)).1 (rw pow-suc at h) in
-    let p : 256 ^ suc i * n ≡ 256 * (256 ^ i * n) = rw pow-suc (rw (mul_comm (256 ^ i) 256) (mul_assoc 256 (256 ^ i) n)) in
-    let e : suc i + k ≡ suc (i + k) = omega arith in
-    let low : (m + 256 ^ suc i * n) % 256 ≡ m % 256 = omega (arith, p) in
-    let high : (m + 256 ^ suc i * n) / 256 ≡ m / 256 + 256 ^ i * n = omega (arith, p) in
-    rw (e, low, high, both i k (m / 256) n g)
-
-pub number_laid : {l m : List ℕ} {at r : ℕ} (k n : ℕ) → Puts l at (low_first (2 + k) (0xFFFF + 65536 * n)) r m → Puts l at (number_data k n) r m
-unfolding number_data
-number_laid {l} {m} {at} {r} k n w = subst (λ (d : List ℕ). Puts l at d r m) (both 2 k 0xFFFF n (lit≤ tt)) w

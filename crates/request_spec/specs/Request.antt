@@ -1,4 +1,4 @@
--- Reads and writes of an address text (document 01, questions 1 to 6 and "Request bytes"; document 02, A1 and A12).
+-- Reads and writes of an address text (document 01, questions 1 to 6 and "Request bytes").
 use Rattle.std.specs.Prelude.{ℕ, ◌-◌, ◌*◌, ◌≡◌, Bool, true, false, not, ◌&&◌, ◌||◌, cond, List, [], ◌∷◌, ◌++◌, leb, ltb, eqb, length}
 use Rattle.base.specs.Masks.{bit_mask}
 use Rattle.base.specs.Numbers.{low_first}
@@ -7,7 +7,6 @@ use Rattle.file_type.specs.Table.{row}
 use Rattle.file_type.specs.declared.FileType.{FileType}
 use Rattle.file_type.specs.declared.FileType.TheVariants.{O, I, S, B, T, C, R, N, F, ST, A, L, MG, PD, PLS}
 use Rattle.element_text.specs.Text.{ascii_text, string_text}
-use Rattle.element_whole.specs.Whole.{twos}
 use Rattle.address_spec.specs.declared.Address.{Address}
 use Rattle.address_spec.specs.declared.Parsed.{Parsed}
 use Rattle.address_spec.specs.declared.Parsed.TheVariants as parsed
@@ -94,30 +93,11 @@ bit_suits x = x.bit && not (preset_or_accum x)
 unfoldable pub text_suits : Address → Bool
 text_suits x = (is_ascii x || is x ST) && leb x.element_count 1
 
--- A1: "an N, B, S, O or I address"
-unfoldable pub word_type : Address → Bool
-word_type x = is x N || is x B || is x S || is x O || is x I
-
--- A1: "A word on an N, B, S, O or I address without a bit, or on PRE and ACC, .. with count 0 or 1"
-unfoldable pub word_suits : Address → Bool
-word_suits x = (preset_or_accum x || word_type x && not x.bit) && leb x.element_count 1
-
--- A1: "a long on L without a bit, .. with count 0 or 1"
-unfoldable pub long_suits : Address → Bool
-long_suits x = is x L && not x.bit && leb x.element_count 1
-
--- A1: "a float on F without a bit .. with count 0 or 1"
-unfoldable pub float_suits : Address → Bool
-float_suits x = is x F && not x.bit && leb x.element_count 1
-
--- "4. Write: is the value raw bytes; or true/false ..; or Latin-1 text ..? no: 4"; A1: "question 4 takes these too"
+-- "4. Write: is the value raw bytes; or true/false ..; or Latin-1 text ..? no: 4"
 unfoldable pub suits : WriteValue → Address → Bool
 suits value.Raw x = true
 suits (value.Bool b) x = bit_suits x
 suits value.Text x = text_suits x
-suits (value.Word z) x = word_suits x
-suits (value.Long z) x = long_suits x
-suits (value.Float n) x = float_suits x
 
 -- "A bit's mask has that one bit, and data equals the mask or 0."
 unfoldable pub bit_data : ℕ → Bool → List ℕ
@@ -127,20 +107,13 @@ bit_data n b = low_first 2 (bit_mask n) ++ low_first 2 (cond b (bit_mask n) 0)
 unfoldable pub text_data : Bool → List ℕ → List ℕ
 text_data ascii s = low_first 2 0xFFFF ++ cond ascii (ascii_text s) (string_text s)
 
--- A1: "Their mask is FFFF"; "INT, DINT and REAL are CIP's, low byte first": a number of k bytes
-unfoldable pub number_data : ℕ → ℕ → List ℕ
-number_data k n = low_first 2 0xFFFF ++ low_first k n
-
--- mask word and data; "Raw bytes supply mask and data."; a word and a long in two's complement, a float's bits as they are
+-- mask word and data; "Raw bytes supply mask and data."
 unfoldable pub supplied : WriteValue → List ℕ → Address → List ℕ
 supplied value.Raw s x = s
 supplied (value.Bool b) s x = bit_data (or_zero x.sub_element) b
 supplied value.Text s x = text_data (is_ascii x) s
-supplied (value.Word z) s x = number_data 2 (twos 0xFFFF z)
-supplied (value.Long z) s x = number_data 4 (twos 0xFFFFFFFF z)
-supplied (value.Float n) s x = number_data 4 n
 
--- "PRE and ACC raw writes put 1 or 2 in the last address field."; A1: "a word on PRE or ACC puts 1 or 2 in the last address field, as raw bytes do"
+-- "PRE and ACC raw writes put 1 or 2 in the last address field."
 unfoldable pub last_address : Address → ℕ
 last_address x = cond (preset_or_accum x) (or_zero x.sub_element) (or_zero x.pos_number)
 

@@ -8,15 +8,12 @@ ghost use Rattle.request_spec.specs.Request.{bit_and_count, place as request_pla
 use address_spec::Address;
 use request_frame::Target;
 
-// What to write. Raw bytes and text stand beside it; a float is its bits.
+// What to write. Raw bytes and text stand beside it.
 #[derive(Drop)]
 pub enum WriteValue {
     Raw,
     Bool(bool),
     Text,
-    Word(i16),
-    Long(i32),
-    Float(u32),
 }
 
 // The address and the length of the message, or the number of the question that was answered with no.

@@ -1,8 +1,8 @@
 // Questions 4 and 5 of a write, its last address field, and its mask word and data in lent memory.
-ghost use Rattle.std.specs.Prelude.{◌≡◌, false, not, ◌&&◌, ◌||◌, eqb, leb, length};
+ghost use Rattle.std.specs.Prelude.{◌≡◌, false, ◌||◌, eqb, length};
 ghost use Rattle.base.specs.Put.{Puts};
 ghost use Rattle.request_spec.specs.SizeAnswers.{data_size_of};
-ghost use Rattle.request_spec.specs.Request.{preset_or_accum, bit_suits, text_suits, word_type, word_suits, long_suits, float_suits, suits as request_suits, last_address, is_ascii, bit_data, text_data, number_data, supplied};
+ghost use Rattle.request_spec.specs.Request.{preset_or_accum, bit_suits, text_suits, suits as request_suits, last_address, is_ascii, bit_data, text_data, supplied};
 
 use address_spec::Address;
 use request_spec::{Size, WriteValue};
@@ -47,57 +47,6 @@ fn text_suits(x: Address) -> bool
     false
 }
 
-// Is it an N, B, S, O or I address?
-fn word_type(x: Address) -> bool
-    ensures { result ≡ word_type x }
-{
-    let t = x.file_type;
-    let code = t.code() as u16;
-    if code == 0x89 {
-        return true;
-    }
-    if either(code, 0x85, 0x84) {
-        return true;
-    }
-    either(code, 0x82, 0x83)
-}
-
-// Does a number of the type suit an address with or without a bit, with this count?
-fn number_suits(typed: bool, bit: bool, count: u64) -> bool
-    ensures { result ≡ (typed && not bit && leb count 1) }
-{
-    if !typed {
-        return false;
-    }
-    if bit {
-        return false;
-    }
-    count <= 1
-}
-
-fn word_suits(x: Address) -> bool
-    ensures { result ≡ word_suits x }
-{
-    if preset_or_accum(x) {
-        return number_suits(true, false, x.element_count);
-    }
-    number_suits(word_type(x), x.bit, x.element_count)
-}
-
-fn long_suits(x: Address) -> bool
-    ensures { result ≡ long_suits x }
-{
-    let t = x.file_type;
-    number_suits(t.code() == 0x91, x.bit, x.element_count)
-}
-
-fn float_suits(x: Address) -> bool
-    ensures { result ≡ float_suits x }
-{
-    let t = x.file_type;
-    number_suits(t.code() == 0x8A, x.bit, x.element_count)
-}
-
 pub fn suits(v: WriteValue, x: Address) -> bool
     ensures { result ≡ request_suits v x }
 {
@@ -105,9 +54,6 @@ pub fn suits(v: WriteValue, x: Address) -> bool
         WriteValue::Raw => true,
         WriteValue::Bool(b) => bit_suits(x),
         WriteValue::Text => text_suits(x),
-        WriteValue::Word(n) => word_suits(x),
-        WriteValue::Long(n) => long_suits(x),
-        WriteValue::Float(n) => float_suits(x),
     }
 }
 
@@ -140,9 +86,6 @@ fn supplied_length(v: WriteValue, bytes: &[u8], x: Address) -> usize
             }
             86
         }
-        WriteValue::Word(n) => 4,
-        WriteValue::Long(n) => 6,
-        WriteValue::Float(n) => 6,
     }
 }
 
@@ -196,13 +139,6 @@ fn put_string(out: &mut [u8], at: usize, text: &[u8]) -> usize
     base::put_all(out, a, &line)
 }
 
-// The mask FFFF and k bytes of a number, as one number.
-fn put_number(out: &mut [u8], at: usize, k: u8, n: u32) -> usize
-    ensures { Puts out.old at (number_data k n) result out.new }
-{
-    base::put_number(out, at, 2 + k as usize, 0xFFFF + 65536 * n as u64)
-}
-
 // Mask word and data, as the value supplies them.
 pub fn put_data(out: &mut [u8], at: usize, v: WriteValue, bytes: &[u8], x: Address) -> usize
     ensures { Puts out.old at (supplied v bytes.now x) result out.new }
@@ -212,8 +148,5 @@ pub fn put_data(out: &mut [u8], at: usize, v: WriteValue, bytes: &[u8], x: Addre
         WriteValue::Raw => base::put_all(out, at, bytes),
         WriteValue::Bool(b) => put_bit(out, at, address_spec::or_zero(sub), b),
         WriteValue::Text => put_text(out, at, is_ascii(x), bytes),
-        WriteValue::Word(n) => put_number(out, at, 2, element_whole::word_bits(n) as u32),
-        WriteValue::Long(n) => put_number(out, at, 4, element_whole::long_bits(n)),
-        WriteValue::Float(n) => put_number(out, at, 4, n),
     }
 }

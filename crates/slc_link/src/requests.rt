@@ -60,16 +60,15 @@ pub extern "C" fn slc_write_request(
     tag: &[u8],
     reading: u8,
     kind: u8,
-    number: i64,
     bytes: &[u8],
     q: Requestor,
     sequence: u16,
     out: &mut [u8],
 ) -> SlcRequest
-    ensures { Asks (writing_kind (kind_of kind number) tag.now (reading_of reading) bytes.now q sequence out.old) out.old result out.new }
+    ensures { Asks (writing_kind (kind_of kind) tag.now (reading_of reading) bytes.now q sequence out.old) out.old result out.new }
 {
     let r = kinds::reading_of(reading);
-    let k = kinds::kind_of(kind, number);
+    let k = kinds::kind_of(kind);
     match k {
         WriteKind::Is(v) => records::request_record(request::write_request(
             tag, r, v, bytes, q, sequence, out,

@@ -249,9 +249,6 @@ static void elements(void) {
     compared();
 }
 
-/* Mostly what a word holds, now and then any number. */
-static int64_t number(void) { return one_in(4) ? (int64_t)next() : one_in(4) ? (int64_t)(int32_t)next() : (int64_t)(int16_t)next(); }
-
 static void requests(void) {
     size_t n, k, m = room_of(27);
     calling("slc_parse_tag");
@@ -273,7 +270,7 @@ static void requests(void) {
     const uint8_t *bytes = lend_bytes(k = one_in(2) ? 4 : length_of(300));
     out = lend_bytes(m = room_of(284));
     sealed();
-    r = slc_write_request(tag, n, reading(), one_in(3) ? SLC_RAW : one_in(3) ? SLC_WORD : below(8), number(), bytes, k, slc_default_requestor(), next(), out, m);
+    r = slc_write_request(tag, n, reading(), one_in(2) ? SLC_RAW : below(5), bytes, k, slc_default_requestor(), next(), out, m);
     written(2, (slc_written){r.address.refused, r.length});
     compared();
     calling("slc_dotted");
@@ -349,48 +346,6 @@ static void bare_replies(void) {
     reply = lend_reply(n);
     sealed();
     refused(slc_reply_directory_size(reply, n, slc_sys0_info(reply, 0)).refused);
-    compared();
-}
-
-/* The data of a read reply: mostly of whole elements, now and then with a length word that a text of ST may have. */
-static uint8_t *lend_data(size_t *n) {
-    uint8_t *data = lend_bytes(*n = one_in(3) ? 84 * (1 + below(3)) : one_in(3) ? length_of(300) : 4 * below(5));
-    for (size_t i = 0; i + 1 < *n; i += 84)
-        if (one_in(2)) data[i] = below(90), data[i + 1] = 0;
-    return data;
-}
-
-/* Is it a value that there is? Only the bytes of a text may have changed. */
-static void valued(int out, size_t index, slc_reply_value v) {
-    int64_t n = v.number;
-    if (refused(v.refused)) {
-        claim(!v.kind && !n && !v.length && !v.count, "a refused call tells more");
-        return;
-    }
-    claim(index < v.count, "a value behind the last");
-    claim(v.kind == SLC_LATIN1 ? v.length <= 82 && arena[out].n >= 82 : !v.length, "a text that is none, or too long");
-    claim(v.kind == SLC_FALSE || v.kind == SLC_LATIN1 ? n == 0 : v.kind == SLC_TRUE ? n == 1 : v.kind == SLC_WORD ? n == (int16_t)n
-          : v.kind == SLC_LONG ? n == (int32_t)n : v.kind == SLC_REAL && n == (uint32_t)n, "a number that its kind hasn't");
-    may_change(out, 0, v.length);
-}
-
-static void values(void) {
-    size_t n, k, m = room_of(82), index = one_in(8) ? next() : one_in(2) ? 0 : below(4);
-    calling("slc_parse_read_reply");
-    const uint8_t *tag = lend_tag(&n), *data = lend_data(&k);
-    uint8_t *out = lend_bytes(m);
-    sealed();
-    valued(2, index, slc_parse_read_reply(tag, n, reading(), data, k, index, out, m));
-    compared();
-    calling("slc_parse_read_data");
-    slc_address a;
-    fill((uint8_t *)&a, sizeof a);
-    a.code = code_of();
-    if (!one_in(3)) a.bit = 0;
-    if (!one_in(3)) a.sub_element = below(16);
-    data = lend_data(&k), out = lend_bytes(m);
-    sealed();
-    valued(1, index, slc_parse_read_data(a, data, k, index, out, m));
     compared();
 }
 
@@ -648,7 +603,7 @@ static int found(pccc_call pccc, const char *what, int wanted) {
 }
 
 int main(int argc, char **argv) {
-    static void (*const turns[])(void) = {types, text, elements, requests, replies, bare_replies, values, directories, lines, processors};
+    static void (*const turns[])(void) = {types, text, elements, requests, replies, bare_replies, directories, lines, processors};
     if (argc < 2) return fprintf(stderr, "usage: guard SEED N | guard --faults\n"), 2;
     setvbuf(stdout, 0, _IOLBF, 0);
     map_arenas();

@@ -19,7 +19,7 @@ fn whole(n: i32, memory: &mut [u8]) -> usize {
     crate::answers::put_signed(memory, a, b':', decimal::of_long(n))
 }
 
-pub fn float(bits: u32, memory: &mut [u8]) -> usize {
+fn float(bits: u32, memory: &mut [u8]) -> usize {
     let high = bits / 65536;
     let low = bits % 65536;
     let bytes = [
@@ -32,7 +32,7 @@ pub fn float(bits: u32, memory: &mut [u8]) -> usize {
     crate::answers::put_byte_string(memory, a, b':', &bytes)
 }
 
-pub fn characters(text: &[u8], n: usize, memory: &mut [u8]) -> usize {
+fn characters(text: &[u8], n: usize, memory: &mut [u8]) -> usize {
     let k = text::within(n, text);
     let a = base::put_all(memory, 0, b" s");
     crate::answers::put_byte_string(memory, a, b':', &text[..k])

@@ -109,25 +109,17 @@ fn most(shape: u8) -> u64 {
     u64::MAX
 }
 
-fn kept_signed(a: Args, i: usize, n: i64) -> Args {
-    if 3 <= i {
-        return a;
-    }
-    let mut b = a;
-    b.whole[i] = n;
-    b
-}
-
-// Signed number i of the line, from -1 - most to most.
-fn signed(a: Args, i: usize, digits: &[u8], most: u64) -> Args {
+// Signed number i of the line.
+fn signed(a: Args, i: usize, digits: &[u8]) -> Args {
     match decimal::signed(digits) {
         Whole::No => fault(crate::answers::NUMBER),
         Whole::Is(n) => {
-            let p = element_whole::apart(n);
-            if most < p.size {
-                return fault(crate::answers::NUMBER);
+            if 3 <= i {
+                return a;
             }
-            kept_signed(a, i, n)
+            let mut b = a;
+            b.whole[i] = n;
+            b
         }
     }
 }
@@ -136,15 +128,15 @@ fn three(a: Args, s: &[u8]) -> Args {
     if text::parts(s, b',') != 3 {
         return fault(crate::answers::NUMBER);
     }
-    let b = signed(a, 0, text::part(s, b',', 0), u64::MAX);
+    let b = signed(a, 0, text::part(s, b',', 0));
     if b.why != 0 {
         return b;
     }
-    let c = signed(b, 1, text::part(s, b',', 1), u64::MAX);
+    let c = signed(b, 1, text::part(s, b',', 1));
     if c.why != 0 {
         return c;
     }
-    signed(c, 2, text::part(s, b',', 2), u64::MAX)
+    signed(c, 2, text::part(s, b',', 2))
 }
 
 fn float(a: Args, digits: &[u8]) -> Args {
@@ -177,30 +169,20 @@ fn value(a: Args, i: usize, shape: u8, s: &[u8]) -> Args {
     if shape == b'c' {
         return code(a, i, s);
     }
+    if shape == b'i' {
+        return signed(a, 0, s);
+    }
     if shape == b'w' {
         return three(a, s);
     }
     if shape == b'f' {
         return float(a, s);
     }
-    in_range(a, i, shape, s)
-}
-
-fn in_range(a: Args, i: usize, shape: u8, s: &[u8]) -> Args {
-    if shape == b'i' {
-        return signed(a, 0, s, u64::MAX);
-    }
-    if shape == b'h' {
-        return signed(a, 0, s, 32767);
-    }
-    if shape == b'l' {
-        return signed(a, 0, s, 2147483647);
-    }
     up_to(a, i, s, most(shape))
 }
 
 // The fields of a line behind its first, one for each shape: `x` a byte string, `q` a requester, `c` a code, `n` a number, `s` one up to 65535,
-// `b` one up to 255, `1` one up to 1, `i` a signed one, `h` one of 16 bits, `l` one of 32 bits, `w` three signed ones, `f` the bits of a float, `_` anything. The bytes of byte strings stand end to end in `space`.
+// `b` one up to 255, `1` one up to 1, `i` a signed one, `w` three signed ones, `f` the bits of a float, `_` anything. The bytes of byte strings stand end to end in `space`.
 pub fn read(line: &[u8], shapes: &[u8], space: &mut [u8]) -> Args {
     if text::fields(line) != sum(shapes.len(), 1) {
         return fault(crate::answers::FIELDS);

@@ -16,8 +16,6 @@ pub enum Area {
     Directory,
     // `dir`, whose answer is said row by row
     Listing,
-    // `reply`, whose answer is said value by value
-    Values,
     Build,
     Processor,
     TestAid,
@@ -32,7 +30,6 @@ fn of_letter(letter: u8) -> Area {
         b'r' => Area::Reply,
         b'd' => Area::Directory,
         b'l' => Area::Listing,
-        b'v' => Area::Values,
         b'b' => Area::Build,
         b'p' => Area::Processor,
         b'x' => Area::TestAid,
@@ -86,10 +83,10 @@ pub fn read(line: &[u8], space: &mut [u8]) -> Args {
     a
 }
 
-// A call and its fields. The areas: a address, t type, e element, q request, r reply, d directory, l listing, v values, b build, p processor, x test aid.
+// A call and its fields. The areas: a address, t type, e element, q request, r reply, d directory, l listing, b build, p processor, x test aid.
 fn of_line(line: &[u8], new: bool, space: &mut [u8]) -> Args {
     let table =
-        b"tag:x:a:r dotted:x:a ft:c:t simft:c:t ftname:x:t swap:x:t pairs:x:t ascii:x:t string:x:t dec:cx:e enc:cxV:e read:xqs:q:r proc:qs:q datalogreq:b:q dirsizereq:xqs:q dirreadreq:cnbqs:q write:xqsW:q:r status:x:r errtext:c:r datalogparse:x:r value:xxn:r:r reply:xx:v:r sys0:x:d dirsize:xx:d dir:nnx:l sim:x__:b cmd:x:p get:cnn:p set:cnnV:p directory::p fill:nx:x spoil:S:x dump::x hash::x";
+        b"tag:x:a:r dotted:x:a ft:c:t simft:c:t ftname:x:t swap:x:t pairs:x:t ascii:x:t string:x:t dec:cx:e enc:cxV:e read:xqs:q:r proc:qs:q datalogreq:b:q dirsizereq:xqs:q dirreadreq:cnbqs:q write:xqsW:q:r status:x:r errtext:c:r datalogparse:x:r sys0:x:d dirsize:xx:d dir:nnx:l sim:x__:b cmd:x:p get:cnn:p set:cnnV:p directory::p fill:nx:x spoil:S:x dump::x hash::x";
     let k = place(text::field(line, 0), table);
     if k == 0 {
         return fields::fault(crate::answers::CALL);
@@ -147,7 +144,7 @@ fn of_value(line: &[u8], before: &[u8], space: &mut [u8]) -> Args {
 }
 
 fn of_write(line: &[u8], before: &[u8], space: &mut [u8]) -> Args {
-    let kinds = b"raw:x text:x bool:1 word:h long:l float:f";
+    let kinds = b"raw:x text:x bool:1";
     of_kind(line, before, kinds, space)
 }
 

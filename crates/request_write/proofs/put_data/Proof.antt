@@ -1,4 +1,4 @@
-use Rattle.request_spec.proofs.Supplied.{bool_laid, float_laid, long_laid, raw_laid, text_laid, word_laid}
+use Rattle.request_spec.proofs.Supplied.{bool_laid, raw_laid, text_laid}
 use borrow.Author.Rules.{rules}
 use Rattle.request_write.proofs.put_data.Statement.{statement}
 use Rattle.request_write.proofs.put_data.Tie as tie
@@ -16,23 +16,8 @@ put-data-spec =
     (λ c κs. search rules)
     (λ c κs. search rules)
     (λ c. search rules)
-    (λ c κs. search rules)
-    (λ c. search rules)
-    (λ c κs. search rules)
-    (λ c. search rules)
-    (λ c κs. search rules)
-    (λ c κs. search rules)
-    (λ c. search rules)
-    (λ c κs. search rules)
-    (λ c. search rules)
     (λ c. search (raw_laid, rules))
     (λ c. search rules)
     (λ c. search (bool_laid, rules))
     (λ c. search rules)
-    (λ c. search (text_laid, rules))
-    (λ c. search rules)
-    (λ c. search (word_laid, rules))
-    (λ c. search rules)
-    (λ c. search (long_laid, rules))
-    (λ c. search rules)
-    (λ c. search (float_laid, rules)))
+    (λ c. search (text_laid, rules)))

@@ -1,4 +1,4 @@
-use Rattle.request_spec.proofs.RequestQuestions.{suits_bool, suits_float, suits_long, suits_raw, suits_text, suits_word}
+use Rattle.request_spec.proofs.RequestQuestions.{suits_bool, suits_raw, suits_text}
 use borrow.Author.Rules.{rules}
 use Rattle.request_write.proofs.suits.Statement.{statement}
 use Rattle.request_write.proofs.suits.Tie as tie
@@ -12,15 +12,6 @@ suits-spec =
     (λ c κs. search rules)
     (λ c. search rules)
     (λ c κs. search rules)
-    (λ c. search rules)
-    (λ c κs. search rules)
-    (λ c. search rules)
-    (λ c κs. search rules)
-    (λ c. search rules)
-    (λ c κs. search rules)
     (λ c. search (suits_raw, rules))
-    (λ c. search (suits_bool, rules))
-    (λ c. search (suits_text, rules))
-    (λ c. search (suits_word, rules))
-    (λ c. search (suits_long, rules))
-    (λ c. search (suits_float, rules)))
+    (λ c. search (suits_text, suits_bool, rules))
+    (λ c. search (suits_bool, suits_text, rules)))

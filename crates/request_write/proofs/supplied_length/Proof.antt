@@ -1,4 +1,4 @@
-use Rattle.request_spec.proofs.Supplied.{ascii_length, bool_length, float_length, long_length, raw_length, string_length, word_length}
+use Rattle.request_spec.proofs.Supplied.{ascii_length, bool_length, raw_length, string_length}
 use borrow.Author.Rules.{rules}
 use Rattle.request_write.proofs.supplied_length.Statement.{statement}
 use Rattle.request_write.proofs.supplied_length.Tie as tie
@@ -12,12 +12,6 @@ supplied-length-spec =
     (λ c. search rules)
     (λ c κs. search rules)
     (λ c. search (ascii_length, rules))
-    (λ c. search rules)
-    (λ c. search rules)
-    (λ c. search rules)
     (λ c. search (raw_length, rules))
     (λ c. search (bool_length, rules))
-    (λ c. search (string_length, rules))
-    (λ c. search (word_length, rules))
-    (λ c. search (long_length, rules))
-    (λ c. search (float_length, rules)))
+    (λ c. search (string_length, rules)))

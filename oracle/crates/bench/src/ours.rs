@@ -45,17 +45,13 @@ pub fn read_request(tag: &str, reading: u8, sequence: u16, out: &mut [u8]) -> sl
     unsafe { slc_read_request(tag.as_ptr(), tag.len(), reading, slc_default_requestor(), sequence, out.as_mut_ptr(), out.len()) }
 }
 
-/// A kind of value, and the number or the bytes that it looks at.
-pub type Written<'a> = (u8, i64, &'a [u8]);
-
-pub fn write_request(tag: &str, (kind, number, bytes): Written, sequence: u16, out: &mut [u8]) -> slc_request {
+pub fn write_request(tag: &str, kind: u8, bytes: &[u8], sequence: u16, out: &mut [u8]) -> slc_request {
     unsafe {
         slc_write_request(
             tag.as_ptr(),
             tag.len(),
             SLC_READING_STORED,
             kind,
-            number,
             bytes.as_ptr(),
             bytes.len(),
             slc_default_requestor(),
@@ -64,16 +60,6 @@ pub fn write_request(tag: &str, (kind, number, bytes): Written, sequence: u16, o
             out.len(),
         )
     }
-}
-
-pub fn parse_read_reply(tag: &str, bytes: &[u8], index: usize, text: &mut [u8]) -> slc_reply_value {
-    unsafe {
-        slc_parse_read_reply(tag.as_ptr(), tag.len(), SLC_READING_STORED, bytes.as_ptr(), bytes.len(), index, text.as_mut_ptr(), text.len())
-    }
-}
-
-pub fn parse_read_data(address: slc_address, bytes: &[u8], index: usize, text: &mut [u8]) -> slc_reply_value {
-    unsafe { slc_parse_read_data(address, bytes.as_ptr(), bytes.len(), index, text.as_mut_ptr(), text.len()) }
 }
 
 pub fn parse_file_directory(first: usize, row: usize, bytes: &[u8], out: &mut [[u32; 4]]) -> slc_written {

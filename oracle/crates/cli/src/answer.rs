@@ -1,5 +1,5 @@
 //! The answers. Every answer about bytes comes from the unchanged original; here stand only the questions that
-//! document 01 marks as added (1 as document 02's A2 has it), what A1 and A12 add over it, and the numbers of the original's errors.
+//! document 01 marks as added (1 as document 02's A2 has it), what A12 adds over it, and the numbers of the original's errors.
 use crate::hex::hex;
 use crate::protocol::{Call, ElementValue, File, Tag, WriteValue, parse};
 use ciplink::slc::pccc::{self, Address, FileType, Requestor};
@@ -11,15 +11,7 @@ use std::fmt::Write as _;
 
 /// Why the Rust cannot be asked, if that is what an answer says.
 pub fn not_asked(answer: &[u8]) -> Option<&'static str> {
-    const REASONS: [&str; 7] = [
-        "type",
-        "utf8",
-        "nojson",
-        "nan",
-        "utf8 datalog",
-        "lost",
-        "spoilt",
-    ];
+    const REASONS: [&str; 6] = ["type", "utf8", "nojson", "utf8 datalog", "lost", "spoilt"];
     match answer.strip_prefix(b"err ") {
         Some(why) => REASONS.into_iter().find(|r| r.as_bytes() == why),
         None => (answer == b"ok f:null").then_some("f:null"),
@@ -147,7 +139,6 @@ impl Oracle {
                 other => Err(format!("err internal {other:?}")),
             },
             Call::Reply(tag, data) => self.reply(tag, &data),
-            Call::Value(tag, data, index) => self.value(tag, &data, index),
             Call::FileType(code) => Ok(shown_type(FileType::from_code(code))),
             Call::FileTypeName(name) => Ok(shown_type(FileType::from_name(&latin1(&name)))),
             Call::SimFileType(code) => Ok(sim_file_type(code).unwrap_or("ok none".into())),
@@ -237,11 +228,7 @@ impl Oracle {
             self.slc()?; // 16 comes first
             return Err(refused(17));
         }
-        let answer = match self.call(call) {
-            // 6 needs no Rust, so it comes before what the Rust cannot be asked
-            Err(why) if why == NAN && room < bytes => return Err(refused(6)),
-            other => other?,
-        };
+        let answer = self.call(call)?;
         if self.raw || answer == "ok none" {
             return Ok(answer);
         }
@@ -308,9 +295,6 @@ impl Oracle {
         if !self.raw && !write_suits(&a, value) {
             return Err(refused(4));
         }
-        if !self.raw && signalling(value) {
-            return Err(NAN.into());
-        }
         self.built(&a, pccc::write_request(&tag, &value_of(value), req, seq))
     }
 
@@ -366,32 +350,30 @@ impl Oracle {
         }
     }
 
-    /// The values that the Rust reads; 27 for its error.
-    fn values(&self, tag: Tag, data: &[u8]) -> Result<Vec<Value>, String> {
+    fn reply(&self, tag: Tag, data: &[u8]) -> Answer {
         let (_, a) = self.address(tag)?;
         match pccc::parse_read_reply(&a, data) {
-            Ok(Value::Array(list)) => Ok(list),
-            Ok(one) => Ok(vec![one]),
-            Err(e) if self.raw => Err(raw_error(&e)),
+            Ok(v) => {
+                let list = match v {
+                    Value::Array(l) => l,
+                    one => vec![one],
+                };
+                let mut s = format!("ok {}", list.len());
+                for v in &list {
+                    let _ = match v {
+                        Value::Bool(b) => write!(s, " b:{}", u8::from(*b)),
+                        Value::Int(n) => write!(s, " w:{n}"),
+                        Value::DInt(n) => write!(s, " l:{n}"),
+                        Value::Real(x) => write!(s, " f:{:08X}", x.to_bits()),
+                        Value::String(t) => write!(s, " s:{}", hex(&to_latin1(t))),
+                        other => return Err(format!("err internal {other:?}")),
+                    };
+                }
+                Ok(s)
+            }
+            Err(e) if self.raw => Ok(raw_error(&e)),
             Err(_) => Err(refused(27)),
         }
-    }
-
-    fn reply(&self, tag: Tag, data: &[u8]) -> Answer {
-        let list = self.values(tag, data)?;
-        let mut s = format!("ok {}", list.len());
-        for v in &list {
-            let _ = write!(s, " {}", shown_value(v)?);
-        }
-        Ok(s)
-    }
-
-    /// 28 is asked of the Rust's list, which it gives whole.
-    fn value(&self, tag: Tag, data: &[u8], index: u64) -> Answer {
-        let list = self.values(tag, data)?;
-        let found = usize::try_from(index).ok().and_then(|i| list.get(i));
-        let v = found.ok_or_else(|| refused(28))?;
-        Ok(format!("ok {}", shown_value(v)?))
     }
 
     fn encode(&self, code: u8, mut bytes: Vec<u8>, value: ElementValue) -> Answer {
@@ -671,33 +653,12 @@ fn shown_element(code: u8, value: &Json) -> Answer {
     })
 }
 
-/// A value of a read reply.
-fn shown_value(v: &Value) -> Answer {
-    Ok(match v {
-        Value::Bool(b) => format!("b:{}", u8::from(*b)),
-        Value::Int(n) => format!("w:{n}"),
-        Value::DInt(n) => format!("l:{n}"),
-        Value::Real(x) => format!("f:{:08X}", x.to_bits()),
-        Value::String(t) => format!("s:{}", hex(&to_latin1(t))),
-        other => return Err(format!("err internal {other:?}")),
-    })
-}
-
-/// The Rust sends a float by way of 64 bits, which makes a signalling NaN a quiet one: it cannot be asked for the bits as they are.
-const NAN: &str = "err nan";
-
-fn signalling(value: &WriteValue) -> bool {
-    const QUIET: u32 = 1 << 22;
-    matches!(value, WriteValue::Float(bits) if f32::from_bits(*bits).is_nan() && bits & QUIET == 0)
-}
-
 fn value_of(value: &WriteValue) -> Value {
     match value {
         WriteValue::Raw(bytes) => Value::Bytes(bytes.clone()),
         WriteValue::Bool(b) => Value::Bool(*b),
         WriteValue::Text(text) => Value::String(latin1(text)),
-        WriteValue::Word(n) => Value::Int(*n),
-        WriteValue::Long(n) => Value::DInt(*n),
+        WriteValue::Word(n) | WriteValue::Long(n) => Value::LInt(*n),
         WriteValue::Float(bits) => Value::Real(f32::from_bits(*bits)),
     }
 }
@@ -711,14 +672,16 @@ fn write_suits(a: &Address, value: &WriteValue) -> bool {
         WriteValue::Raw(_) => true,
         WriteValue::Bool(_) => a.bit && !preset,
         WriteValue::Text(_) => matches!(a.file_type, FileType::A | FileType::ST) && single,
-        WriteValue::Word(_) => {
+        WriteValue::Word(n) => {
             let plain = matches!(
                 a.file_type,
                 FileType::N | FileType::B | FileType::S | FileType::O | FileType::I
             ) && !a.bit;
-            (plain || preset) && single
+            (plain || preset) && single && i16::try_from(*n).is_ok()
         }
-        WriteValue::Long(_) => a.file_type == FileType::L && !a.bit && single,
+        WriteValue::Long(n) => {
+            a.file_type == FileType::L && !a.bit && single && i32::try_from(*n).is_ok()
+        }
         WriteValue::Float(_) => a.file_type == FileType::F && !a.bit && single,
     }
 }

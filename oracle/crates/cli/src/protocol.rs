@@ -43,8 +43,8 @@ pub enum WriteValue {
     Raw(Vec<u8>),
     Bool(bool),
     Text(Vec<u8>),
-    Word(i16),
-    Long(i32),
+    Word(i64),
+    Long(i64),
     Float(u32),
 }
 
@@ -85,7 +85,6 @@ pub enum Call {
     ErrorText(u8),
     ParseDatalog(Vec<u8>),
     Reply(Tag, Vec<u8>),
-    Value(Tag, Vec<u8>, u64),
     FileType(u8),
     FileTypeName(Vec<u8>),
     SimFileType(u8),
@@ -120,7 +119,9 @@ pub enum Count {
 }
 use Count::{Kind, Of, Rest};
 
-const WRITE_KINDS: &[(&str, usize)] = &[
+const WRITE_KINDS: &[(&str, usize)] = &[("raw", 1), ("bool", 1), ("text", 1)];
+/// With the kinds of A1 of document 02, which `write` doesn't know yet.
+const VALUE_KINDS: &[(&str, usize)] = &[
     ("raw", 1),
     ("bool", 1),
     ("text", 1),
@@ -155,7 +156,7 @@ pub const CALLS: &[(&str, Count, Reader)] = &[
     ("dotted", Of(2), |f| Ok(Call::Dotted(f.bytes()?))),
     ("read", Of(4), |f| Ok(Call::Read(f.tag()?, f.req()?, f.seq()?))),
     ("write", Kind(4, WRITE_KINDS), |f| Ok(Call::Write(f.tag()?, f.req()?, f.seq()?, f.write_value()?))),
-    ("wvalue", Kind(2, WRITE_KINDS), |f| Ok(Call::WritableValue(f.tag()?, f.write_value()?))),
+    ("wvalue", Kind(2, VALUE_KINDS), |f| Ok(Call::WritableValue(f.tag()?, f.write_value()?))),
     ("proc", Of(3), |f| Ok(Call::Processor(f.req()?, f.seq()?))),
     ("datalogreq", Of(2), |f| Ok(Call::DatalogRequest(f.byte()?))),
     ("sys0", Of(2), |f| Ok(Call::Sys0(f.bytes()?))),
@@ -167,7 +168,6 @@ pub const CALLS: &[(&str, Count, Reader)] = &[
     ("errtext", Of(2), |f| Ok(Call::ErrorText(f.code()?))),
     ("datalogparse", Of(2), |f| Ok(Call::ParseDatalog(f.bytes()?))),
     ("reply", Of(3), |f| Ok(Call::Reply(f.tag()?, f.bytes()?))),
-    ("value", Of(4), |f| Ok(Call::Value(f.tag()?, f.bytes()?, f.number()?))),
     ("ft", Of(2), |f| Ok(Call::FileType(f.code()?))),
     ("ftname", Of(2), |f| Ok(Call::FileTypeName(f.bytes()?))),
     ("simft", Of(2), |f| Ok(Call::SimFileType(f.code()?))),
@@ -192,7 +192,7 @@ pub const CALLS: &[(&str, Count, Reader)] = &[
 ];
 
 /// The calls that are told the reading of their tag: those that `new` may stand before. `dotted` names its reading itself.
-pub const TOLD: &[&str] = &["tag", "read", "write", "wvalue", "reply", "value"];
+pub const TOLD: &[&str] = &["tag", "read", "write", "wvalue", "reply"];
 
 /// The number of fields and the reader of a call, None for a word that is no call.
 pub fn call(word: &[u8]) -> Option<&'static (&'static str, Count, Reader)> {
@@ -327,10 +327,6 @@ impl<'a> Fields<'a> {
     fn signed(&mut self) -> Result<i64, Why> {
         signed(self.next()).ok_or(Why::Number)
     }
-    /// A signed number that the type T holds.
-    fn narrow_signed<T: TryFrom<i64>>(&mut self) -> Result<T, Why> {
-        T::try_from(self.signed()?).map_err(|_| Why::Number)
-    }
     fn flag(&mut self) -> Result<bool, Why> {
         match self.number()? {
             0 => Ok(false),
@@ -347,8 +343,8 @@ impl<'a> Fields<'a> {
             b"raw" => WriteValue::Raw(self.bytes()?),
             b"bool" => WriteValue::Bool(self.flag()?),
             b"text" => WriteValue::Text(self.bytes()?),
-            b"word" => WriteValue::Word(self.narrow_signed()?),
-            b"long" => WriteValue::Long(self.narrow_signed()?),
+            b"word" => WriteValue::Word(self.signed()?),
+            b"long" => WriteValue::Long(self.signed()?),
             b"float" => WriteValue::Float(self.bits()?),
             _ => return Err(Why::Kind),
         })

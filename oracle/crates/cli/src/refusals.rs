@@ -21,7 +21,6 @@ pub const REFUSED: &[(&str, &[u32], u32)] = &[
     ("status", &[], 6),
     ("errtext", &[], 6),
     ("reply", &[1, 2, 27], 0),
-    ("value", &[1, 2, 27, 28], 24),
     ("enc", &[19, 20, 21, 22, 23], 0),
     ("dec", &[19, 20], 24),
     ("sim", &[11, 12, 13, 14, 15], 0),
@@ -37,10 +36,8 @@ pub const REFUSED: &[(&str, &[u32], u32)] = &[
 
 /// Calls that no area writes, and why.
 pub const NOT_GENERATED: &[(&str, &str)] = &[
-    (
-        "wvalue",
-        "the oracle's alone: the Rust's `writeable_value` without question 4; `write` has its bytes",
-    ),
+    ("reply", "request A1, not built yet; 27 is its number alone"),
+    ("wvalue", "request A1, not built yet"),
     (
         "msg",
         "the oracle's alone: document 01 leaves `Slc::message` out",

@@ -4,9 +4,7 @@ mod commands;
 mod replies;
 mod rows;
 mod texts;
-mod values;
 mod words;
-mod written;
 
 use std::process::exit;
 
@@ -45,7 +43,7 @@ impl Tally {
 
 type Area = (&'static str, &'static str, fn(&mut Tally));
 
-const AREAS: [Area; 14] = [
+const AREAS: [Area; 12] = [
     ("short", "every text of at most 4 bytes below 128: parse_tag in both readings; where the stored one accepts it read_request, and dotted with its text as a new entry", texts::short),
     ("signs", "every text of at most 7 of the signs N T I S 7 1 0 : . / { } P: the same", texts::signs),
     ("forms", "15 beginnings, as N7: and T4:1, with at most 5 of 19 signs behind: the same", texts::forms),
@@ -57,8 +55,6 @@ const AREAS: [Area; 14] = [
     ("bounds", "every read of 0 to 255 bytes and every write of 0 to 7, from every element and each of its first five words, of every file: the same", commands::bounds),
     ("rows", "every directory of at most 6 of the bytes 00 01 82 83 89 8D FF, with rows of 1 to 4 bytes from byte 0 to 3 on: parse_file_directory", rows::all),
     ("replies", "every status with every extended one, in raw replies of every length to 64; every size of a directory: request_status, parse_datalog, parse_file_directory_size", replies::all),
-    ("values", "every index, and some past the last, of data of 0 to 170 bytes in six fillings, by addresses of all fifteen types with and without a bit, of 25 sub-elements; outputs of 0, 81 and 82 bytes for A and ST; the codes that no type has; 29 tags in both readings: parse_read_reply", values::all),
-    ("written", "every whole number from -70,000 to 70,000 on seven addresses that take a word, 420,000 and the ends of 64 bits on L, every upper half of a float with three lower ones on F: write_request", written::all),
     ("words", "every word as N, S, B, O and I, and every whole number from -70,000 to 70,000: decode_element, encode_element", words::all),
 ];
 

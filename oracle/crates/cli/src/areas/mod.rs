@@ -10,7 +10,6 @@ mod request;
 mod room;
 mod syntax;
 mod utf8;
-mod values;
 
 use crate::hex::hex;
 use crate::protocol::TOLD;
@@ -34,7 +33,6 @@ const AREAS: &[Area] = &[
     Area { name: "processor", calls: &["sim", "cmd", "get", "set", "fill", "dump", "hash", "directory"], lines: processor::lines },
     Area { name: "codec", calls: &["swap", "pairs", "ascii", "string", "enc", "dec"], lines: codec::lines },
     Area { name: "reply", calls: &["status", "errtext", "datalogparse"], lines: reply::lines },
-    Area { name: "values", calls: &["reply", "value", NEW, "room"], lines: values::lines },
     Area { name: "directory", calls: &["sys0", "dirsize", "dir"], lines: directory::lines },
     Area { name: ROOM, calls: &["room", "datalogreq", "hash", "directory"], lines: room::lines },
 ];
@@ -124,12 +122,7 @@ fn in_turn(mut parts: Vec<Lines>) -> Lines {
 
 /// Lines that settle a rule each: all of them are in the stored sample.
 pub fn settled() -> Vec<Vec<u8>> {
-    let lines = [
-        address::settled(),
-        request::settled(),
-        reading::settled(),
-        values::settled(),
-    ];
+    let lines = [address::settled(), request::settled(), reading::settled()];
     lines
         .into_iter()
         .flatten()

@@ -53,128 +53,12 @@ const WRITES: &[(&str, &str)] = &[
     ("T4:0.EN", "text 61"),
     ("A9:0{2}", "text 6162"),
     ("ST9:0{2}", "text 6162"),
-    // A1 of document 02: words, longs and floats, with their ends; PRE and ACC put 1 and 2 in the last address field
-    ("N7:0", "word 5"),
-    ("N7:0", "word -32768"),
-    ("N7:0", "word 32767"),
-    ("N7:0", "word -1"),
-    ("N7:0{0}", "word -0"),
-    ("N7:0{1}", "word 00258"),
-    ("B3:1", "word 258"),
-    ("S:1", "word 258"),
-    ("O:0.1", "word 258"),
-    ("I:3.300", "word 258"),
-    ("T4:0.PRE", "word 258"),
-    ("C5:255.ACC", "word -2"),
-    ("L9:0", "long 16909060"),
-    ("L9:0{0}", "long -2147483648"),
-    ("L9:0{1}", "long 2147483647"),
-    ("L9:0", "long -1"),
-    ("F8:0", "float 3F800000"),
-    ("F8:0{0}", "float 80000000"),
-    ("F8:0{1}", "float 7F800000"),
-    ("F8:0", "float FF800000"),
-    ("F8:0", "float 7FC00001"),
-    ("F8:0", "float 00000001"),
-    // 4: a bit, a count of 2, another type
-    ("N7:0/3", "word 1"),
-    ("N7:0/0", "word 0"),
-    ("B3/17", "word 1"),
-    ("I:3/5", "word 1"),
-    ("T4:0.EN", "word 1"),
-    ("N7:0{2}", "word 1"),
-    ("A9:0", "word 0"),
-    ("ST9:0", "word 0"),
-    ("L9:0", "word 5"),
-    ("F8:0", "word 5"),
-    ("N7:0", "long 5"),
-    ("T4:0.PRE", "long 5"),
-    ("L9:0/3", "long 1"),
-    ("L9:0{2}", "long 1"),
-    ("F8:0", "long 5"),
-    ("A9:0", "long 0"),
-    ("N7:0", "float 00000000"),
-    ("L9:0", "float 00000000"),
-    ("T4:0.ACC", "float 00000000"),
-    ("ST9:0", "float 00000000"),
-    ("F8:0/3", "float 3F800000"),
-    ("F8:0{2}", "float 3F800000"),
-    // 3 before 4
-    ("N7:0/3{2}", "word 1"),
-    ("L9:0/3{2}", "long 1"),
-    ("F8:0/3{2}", "float 3F800000"),
-    // 2 before 4
-    ("X7:0", "word 1"),
-    ("ST9:0{3}", "long 1"),
-    ("R6:0.LEN", "word 1"),
-    // no numbers of the kind
-    ("N7:0", "word 32768"),
-    ("N7:0", "word -32769"),
-    ("L9:0", "long 2147483648"),
-    ("L9:0", "long -2147483649"),
-    ("F8:0", "float 3F8000"),
-];
-/// Every form of an address that question 4 tells apart.
-const PLACES: &[&str] = &[
-    "N7:0",
-    "N7:0{0}",
-    "N7:0{1}",
-    "N7:0{2}",
-    "N7:0{18446744073709551615}",
-    "N7:0/0",
-    "N7:0/15",
-    "N7:0/3{2}",
-    "B3:1",
-    "B3:1{2}",
-    "B3:1/1",
-    "B3/16",
-    "S:1",
-    "S:1{2}",
-    "S:1/1",
-    "O:1",
-    "O:1.2{2}",
-    "O:1.2/2",
-    "I:3.300",
-    "I:3.300{0}",
-    "I:3.300/1",
-    "L9:0",
-    "L9:0{1}",
-    "L9:0{2}",
-    "L9:0/1",
-    "L9:0/1{2}",
-    "F8:0",
-    "F8:0{1}",
-    "F8:0{2}",
-    "F8:0/2",
-    "A9:0",
-    "A9:0{2}",
-    "ST9:0",
-    "ST9:0{2}",
-    "T4:1.PRE",
-    "C5:1.PRE",
-    "T4:1.ACC",
-    "C5:1.ACC",
-    "T4:1.EN",
-    "C5:1.UA",
-    "R6:0",
-];
-/// Values of the kinds of A1, also those that stand for false.
-const NUMBERS: &[&str] = &[
-    "word 0",
-    "word -2",
-    "long 0",
-    "long -70000",
-    "float 00000000",
-    "float 3F8CCCCD",
 ];
 /// Writes with a character past U+007F in the tag (A2 of document 02).
 const CHARACTERS: &[(&str, &str)] = &[
     ("ı:3.300/5", "bool 1"),
     ("ı:3.300", "raw FFFF0100"),
     ("ı:3.300", "bool 1"),
-    ("ı:3.300", "word 258"),
-    ("ı:3.300/5", "word 258"),
-    ("T4:0éPRE", "word 258"),
     ("ı:3/5{2}", "bool 1"),
     ("ſ:1/15", "bool 1"),
     ("ſ:1/15", "text 61"),
@@ -239,20 +123,10 @@ pub fn lines(rng: Rng) -> Lines {
             texts.collect(),
             in_rooms(),
             characters(),
-            numbers(),
         ],
         rng,
         random,
     )
-}
-
-/// Each value of A1 at each place.
-fn numbers() -> Vec<String> {
-    let each = NUMBERS.iter().flat_map(|value| {
-        let at = move |t: &&str| format!("write {} {REQ} 4660 {value}", tag(t));
-        PLACES.iter().map(at)
-    });
-    each.collect()
 }
 
 /// Characters past U+007F, and bytes that aren't well-formed.
@@ -300,11 +174,6 @@ fn in_rooms() -> Vec<String> {
             ("N7:0", "bool 1"),
             ("N7:0", "raw 01"),
             ("N7:0", "raw 0102"),
-            ("N7:0", "word 1"),
-            ("N7:0/3", "word 1"),
-            ("N7:0/3{2}", "word 1"),
-            ("L9:0", "long 1"),
-            ("F8:0", "float 3F800000"),
         ] {
             list.push(format!("room {room} write {} {REQ} 1 {value}", tag(t)));
         }
@@ -350,12 +219,7 @@ fn in_rooms() -> Vec<String> {
 fn random(rng: &mut Rng) -> String {
     let line = match rng.below(10) {
         0..=3 => format!("read {} {}", any_tag(rng), asker(rng)),
-        4 => {
-            let (t, value) = suited(rng);
-            let t = any_hex(rng, t.as_bytes());
-            format!("write {t} {} {value}", asker(rng))
-        }
-        5 | 6 => {
+        4..=6 => {
             let (t, asker) = (any_tag(rng), asker(rng));
             format!("write {t} {asker} {}", value(rng))
         }
@@ -426,12 +290,9 @@ pub(super) fn asker(rng: &mut Rng) -> String {
 }
 
 pub(super) fn value(rng: &mut Rng) -> String {
-    match rng.below(8) {
+    match rng.below(4) {
         0 | 1 => format!("bool {}", rng.below(2)),
-        2 => word(rng),
-        3 => long(rng),
-        4 => float(rng),
-        5 | 6 => {
+        2 => {
             let n = match rng.below(3) {
                 0 => rng.pick(&[0, 1, 2, 3, 4, 256, 257, 258, 300]),
                 _ => rng.below(12),
@@ -447,54 +308,5 @@ pub(super) fn value(rng: &mut Rng) -> String {
             let text = rng.bytes(n);
             format!("text {}", any_hex_or_none(rng, &text))
         }
-    }
-}
-
-fn word(rng: &mut Rng) -> String {
-    format!("word {}", whole(rng, 1 << 15))
-}
-
-fn long(rng: &mut Rng) -> String {
-    format!("long {}", whole(rng, 1 << 31))
-}
-
-/// Any bits; seldom a signalling NaN, which the Rust cannot be asked.
-fn float(rng: &mut Rng) -> String {
-    let bits = match rng.below(20) {
-        0 => rng.pick(&[0x7F80_0001, 0xFFBF_FFFF]),
-        1..=6 => rng.pick(&[0, 1, 1 << 31, 0x7F80_0000, 0xFF80_0000, 0x7FC0_0001]),
-        _ => rng.draw() as u32,
-    };
-    format!("float {}", any_hex(rng, &bits.to_be_bytes()))
-}
-
-/// A word, long or float where question 4 takes it but for some counts.
-fn suited(rng: &mut Rng) -> (String, String) {
-    let (file, element) = (1 + rng.below(255), rng.below(256));
-    let count = rng.pick(&["", "", "", "{0}", "{1}", "{2}"]);
-    let text = match rng.below(6) {
-        0 => format!("N{file}:{element}{count}"),
-        1 => format!("B{file}:{element}{count}"),
-        2 => format!("S:{element}{count}"),
-        3 => {
-            let (letter, position) = (rng.pick(&["I", "O", "ı"]), 4 * element);
-            format!("{letter}:{element}.{position}{count}")
-        }
-        4 => {
-            let (letter, name) = (rng.pick(&["T", "C"]), rng.pick(&["PRE", "acc"]));
-            format!("{letter}{file}:{element}.{name}")
-        }
-        _ if rng.once_in(2) => return (format!("L{file}:{element}{count}"), long(rng)),
-        _ => return (format!("F{file}:{element}{count}"), float(rng)),
-    };
-    (text, word(rng))
-}
-
-/// A signed number from -`end` to `end` - 1, seldom one past it.
-fn whole(rng: &mut Rng, end: i64) -> i64 {
-    match rng.below(12) {
-        0 => rng.pick(&[end, -end - 1]),
-        1 | 2 => rng.pick(&[-end, end - 1, -1, 0, 1]),
-        _ => rng.below(2 * end as usize) as i64 - end,
     }
 }

@@ -1,5 +1,5 @@
 //! Calls behind `room`: what the areas without a processor write, in less room than it needs, just enough and more; and calls that have no output.
-use super::{Lines, address, codec, directory, file_type, in_turn, reading, reply, values};
+use super::{Lines, address, codec, directory, file_type, in_turn, reading, reply};
 use crate::protocol::bare;
 use crate::rng::Rng;
 
@@ -30,7 +30,6 @@ pub fn lines(mut rng: Rng) -> Lines {
         reply::lines,
         directory::lines,
         readings,
-        reply_values,
         requests,
     ];
     let parts = areas.map(|lines| lines(Rng::new(rng.draw(), "room")));
@@ -47,18 +46,9 @@ pub fn lines(mut rng: Rng) -> Lines {
     }))
 }
 
-/// New entries and texts with a full stop.
-fn readings(rng: Rng) -> Lines {
-    without_room(rng, reading::lines)
-}
-
-fn reply_values(rng: Rng) -> Lines {
-    without_room(rng, values::lines)
-}
-
-/// Lines that have their `room` already are left out but for some, which are none of the protocol then.
-fn without_room(mut rng: Rng, lines: fn(Rng) -> Lines) -> Lines {
-    let lines = lines(Rng::new(rng.draw(), "room"));
+/// New entries and texts with a full stop. Lines that have their `room` already are left out but for some, which are none of the protocol then.
+fn readings(mut rng: Rng) -> Lines {
+    let lines = reading::lines(Rng::new(rng.draw(), "room"));
     Box::new(lines.filter(move |l| !bare(l).room || rng.once_in(20)))
 }
 

@@ -13,7 +13,7 @@ use std::collections::{BTreeMap, BTreeSet};
 use std::process::ExitCode;
 
 /// Bytes of both files, and of a request with its answer.
-const ROOM: usize = 210_000;
+const ROOM: usize = 185_000;
 const SHORT: usize = 999;
 /// So many longer ones, up to this size, are taken as well.
 const LONGER: (usize, usize) = (2, 3_000);
@@ -46,10 +46,7 @@ const BY_CODE: &[&str] = &["ft", "simft", "errtext"];
 const NONE: &[u8] = b"ok none";
 
 /// Calls with a tag, in hexadecimal.
-const TAGGED: &[&str] = &["tag", "dotted", "read", "write", "reply", "value"];
-
-/// Calls that answer values of a read reply.
-const VALUED: &[&str] = &["reply", "value"];
+const TAGGED: &[&str] = &["tag", "dotted", "read", "write"];
 
 /// Has the tag a byte above 127?
 fn past_ascii(tag: &[u8]) -> bool {
@@ -60,8 +57,8 @@ fn past_ascii(tag: &[u8]) -> bool {
 /// the line's first word.
 type Group = (String, Vec<u8>);
 
-/// The group of a line, and the part of the group: the type code, where it is a known one, the kind, the sort of value that was read, and whether a
-/// tag goes past U+007F. A group behind `room` has one part.
+/// The group of a line, and the part of the group: the type code, where it is a known one, the kind, and whether a tag goes past U+007F. A group
+/// behind `room` has one part.
 fn group(line: &[u8], answer: &[u8]) -> (Group, Vec<u8>) {
     if line == answer {
         return ((String::new(), Vec::new()), Vec::new());
@@ -83,12 +80,6 @@ fn group(line: &[u8], answer: &[u8]) -> (Group, Vec<u8>) {
     }
     if let Count::Kind(at, _) = count {
         part.extend(fields[*at]);
-    }
-    if VALUED.contains(name) {
-        // the first value's letter, and whether it is the only one
-        let colon = answer.iter().position(|&b| b == b':');
-        part.extend(colon.map(|at| answer[at - 1]));
-        part.extend(answer.starts_with(b"ok 1 ").then_some(b'1'));
     }
     if TAGGED.contains(name) && past_ascii(fields[1]) {
         part.push(b'+');

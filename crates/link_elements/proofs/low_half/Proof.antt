@@ -1,7 +1,7 @@
-use Rattle.element_whole.proofs.Signed.{half_negative, half_positive}
+use Rattle.link_elements.proofs.ElementRecords.{half_negative, half_positive}
 use borrow.Author.Rules.{rules}
-use Rattle.element_whole.proofs.low_half.Statement.{statement}
-use Rattle.element_whole.proofs.low_half.Tie as tie
+use Rattle.link_elements.proofs.low_half.Statement.{statement}
+use Rattle.link_elements.proofs.low_half.Tie as tie
 
 pub low-half-spec : {M : Type 1} → statement M
 low-half-spec =

@@ -1,3 +1,0 @@
-pub mod ValueRows
-pub mod InParts
-pub mod ReplyAnswers
