@@ -1,4 +1,5 @@
 // The two readings of a tag, and where the separator of a timer or counter stands.
+#![tactic(auto)]
 ghost use Rattle.std.specs.Prelude.{◌≡◌, length, ◌-◌};
 ghost use Rattle.address_readings.specs.Readings.{plain, timed as readings_timed};
 ghost use Rattle.address_readings.specs.Places.{letters_of, name_length, plain_before};
@@ -7,14 +8,14 @@ use address_spec::Maybe;
 use file_type::FileType;
 
 // How a tag is read: as a new entry, or as one of a stored list.
-#[derive(Drop)]
+#[derive(Clone, Copy)]
 pub enum Reading {
     New,
     Stored,
 }
 
 // How many bytes of text were written, or the number of the question that was answered with no.
-#[derive(Drop)]
+#[derive(Clone, Copy)]
 pub enum Dotted {
     Refused(u8),
     Written(usize),

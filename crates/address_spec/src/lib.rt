@@ -1,4 +1,5 @@
 // The address spelling: the definitions of document 01 (specs/), their laws and rows (proofs/), and the plain data that their readers answer with.
+#![tactic(auto)]
 ghost use Rattle.std.specs.Prelude.{◌≡◌};
 ghost use Rattle.address_spec.specs.Spelling.{or_zero};
 
@@ -6,7 +7,7 @@ use file_type::FileType;
 use parser::Cur;
 
 // A number that may be missing.
-#[derive(Drop)]
+#[derive(Clone, Copy)]
 pub enum Maybe {
     Missing,
     Is(u16),
@@ -23,7 +24,7 @@ pub fn or_zero(m: Maybe) -> u16
 }
 
 // A data file address.
-#[derive(Drop)]
+#[derive(Clone, Copy)]
 pub struct Address {
     pub file_type: FileType,
     pub file_number: u16,
@@ -36,49 +37,49 @@ pub struct Address {
 }
 
 // The address of a tag, or the number of the question that was answered with no.
-#[derive(Drop)]
+#[derive(Clone, Copy)]
 pub enum Parsed {
     Refused(u8),
     Is(Address),
 }
 
 // The answer of a form.
-#[derive(Drop)]
+#[derive(Clone, Copy)]
 pub enum Found {
     No,
     Is(Address),
 }
 
 // A type and the place behind its letters.
-#[derive(Drop)]
+#[derive(Clone, Copy)]
 pub enum Typed {
     No,
     Is(FileType, Cur),
 }
 
 // The type and file of I and O.
-#[derive(Drop)]
+#[derive(Clone, Copy)]
 pub enum Slot {
     No,
     Is(FileType, u16, Cur),
 }
 
 // An optional bit.
-#[derive(Drop)]
+#[derive(Clone, Copy)]
 pub enum Bit {
     No,
     Got(Maybe, Cur),
 }
 
 // An optional bit, and a count.
-#[derive(Drop)]
+#[derive(Clone, Copy)]
 pub enum Tail {
     No,
     Got(Maybe, u64, Cur),
 }
 
 // The element and sub-element of a timer or counter.
-#[derive(Drop)]
+#[derive(Clone, Copy)]
 pub enum Named {
     No,
     Got(u64, u16),

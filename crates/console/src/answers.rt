@@ -20,7 +20,7 @@ pub const HEX: u8 = 5;
 
 pub const NUMBER: u8 = 6;
 
-#[derive(Drop)]
+#[derive(Clone, Copy)]
 pub enum Answer {
     // The line is none of the protocol.
     Error(u8),

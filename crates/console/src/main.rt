@@ -1,4 +1,5 @@
 // Answers the lines of oracle/PROTOCOL.md: one request a line on standard input, one answer a line on standard output.
+#![tactic(auto)]
 mod addresses;
 mod answers;
 mod directories;
@@ -109,7 +110,7 @@ fn answer_line(
 }
 
 // The place in the input, how many bytes of the line are kept, and whether the line has ended.
-#[derive(Drop)]
+#[derive(Clone, Copy)]
 struct Taken {
     at: usize,
     kept: usize,
@@ -154,7 +155,7 @@ fn keep(line: &mut [u8], k: usize, b: u8) -> usize
 }
 
 // How many bytes of a line wait for the rest of it, and what was said.
-#[derive(Drop)]
+#[derive(Clone, Copy)]
 struct State {
     kept: usize,
     said: Pending,
@@ -208,7 +209,7 @@ fn answer_all(
     state
 }
 
-#[derive(Drop)]
+#[derive(Clone, Copy)]
 struct Went {
     state: State,
     open: bool,

@@ -8,7 +8,7 @@ ghost use Rattle.console.specs.Said.{Said};
 use libc::STDOUT_FILENO;
 
 // How many bytes of the buffer wait, and whether no write has failed so far. After one that failed nothing is written.
-#[derive(Drop)]
+#[derive(Clone, Copy)]
 pub struct Pending {
     pub at: usize,
     pub good: bool,

@@ -1,4 +1,5 @@
 // Numbers as decimal text, written and read. No function has a `requires`.
+#![tactic(auto)]
 ghost use Rattle.std.specs.Prelude.{◌≡◌, ◌+◌, ◌*◌, ◌<◌, ◌≤◌, length, [], ◌∷◌, nat_abs};
 ghost use Rattle.base.specs.Put.{Puts};
 ghost use Rattle.std.proofs.Math.Option.{some};
@@ -44,7 +45,7 @@ pub fn put_signed(out: &mut [u8], at: usize, n: i64) -> usize
 }
 
 // What a number may be.
-#[derive(Drop)]
+#[derive(Clone, Copy)]
 pub enum Decimal {
     No,
     Is(u64),
@@ -93,7 +94,7 @@ pub fn number(s: &[u8]) -> Decimal
 }
 
 // What a whole number may be.
-#[derive(Drop)]
+#[derive(Clone, Copy)]
 pub enum Whole {
     No,
     Is(i64),

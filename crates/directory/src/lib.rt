@@ -1,4 +1,5 @@
 // The file directory of a processor, client side: the data files that its rows name.
+#![tactic(auto)]
 mod rows;
 
 ghost use Rattle.std.specs.Prelude.{◌≡◌, ◌<◌, ◌≤◌, length};
@@ -7,7 +8,7 @@ ghost use Rattle.directory.specs.Rows.{rows as rows_rows, files_from, within, li
 use rows::Counted;
 
 // How many files there are, or the number of the question that was answered with no.
-#[derive(Drop)]
+#[derive(Clone, Copy)]
 pub enum Listed {
     Refused(u8),
     Files(usize),

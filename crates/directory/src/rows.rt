@@ -21,7 +21,7 @@ fn row_at(bytes: &[u8], at: usize) -> Row
 }
 
 // How many files there are, unless a row is cut.
-#[derive(Drop)]
+#[derive(Clone, Copy)]
 pub enum Counted {
     Cut,
     Files(usize),
@@ -56,7 +56,7 @@ pub fn count_files(first: usize, size: usize, bytes: &[u8]) -> Counted
 }
 
 // How many files are laid, and the number of the next row that counts.
-#[derive(Drop)]
+#[derive(Clone, Copy)]
 pub struct Turn {
     pub at: usize,
     pub number: u32,

@@ -1,4 +1,5 @@
 // One row of a file directory, client side: what it says, the number and the elements of its file, and the place of the next one.
+#![tactic(auto)]
 ghost use Rattle.std.specs.Prelude.{◌≡◌, ◌+◌, ◌/◌, min, drop};
 ghost use Rattle.file_type.specs.Table.{row as table_row};
 ghost use Rattle.directory_row.specs.Row.{file_row, other_row, number_of};
@@ -6,7 +7,7 @@ ghost use Rattle.directory_row.specs.Row.{file_row, other_row, number_of};
 use file_type::FileType;
 
 // What a row says: a file and its length, a file whose length is cut, a number that is kept free, or nothing.
-#[derive(Drop)]
+#[derive(Clone, Copy)]
 pub enum Row {
     File(FileType, u16),
     Cut,

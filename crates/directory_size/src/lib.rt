@@ -1,11 +1,12 @@
 // The file directory of a processor, client side: its size.
+#![tactic(auto)]
 ghost use Rattle.std.specs.Prelude.{◌≡◌};
 ghost use Rattle.directory_size.specs.Size.{size_in, size_of, reply_size};
 
 use directory_sys0::Sys0Info;
 
 // The size of the directory in bytes, or the number of the question that was answered with no.
-#[derive(Drop)]
+#[derive(Clone, Copy)]
 pub enum DirectorySize {
     Refused(u8),
     Bytes(i32),

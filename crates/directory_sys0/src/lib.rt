@@ -1,10 +1,11 @@
 // Where a processor keeps its file directory, by the family that its type text names.
+#![tactic(auto)]
 ghost use Rattle.std.specs.Prelude.{◌≡◌, take};
 ghost use Rattle.directory_sys0.specs.Families.{layout, families, family_in, sys0};
 
 // The directory's layout.
 #[repr(C)]
-#[derive(Drop)]
+#[derive(Clone, Copy)]
 pub struct Sys0Info {
     // place of the first row
     pub file_position: usize,

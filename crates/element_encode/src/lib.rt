@@ -1,4 +1,5 @@
 // Values of the twelve file types into the bytes of one element.
+#![tactic(auto)]
 mod set;
 
 ghost use Rattle.element_spec.specs.Encode.{Stores, encoded};

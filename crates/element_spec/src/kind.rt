@@ -4,7 +4,7 @@ ghost use Rattle.element_spec.specs.Encode.{kind_of};
 
 use file_type::FileType;
 
-#[derive(Drop)]
+#[derive(Clone, Copy)]
 pub enum ElementKind {
     Word,
     Long,

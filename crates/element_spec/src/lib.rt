@@ -1,8 +1,9 @@
 // The values of the twelve file types, which of them suit a type, and by definition the bytes that they set and the values that bytes give.
+#![tactic(auto)]
 pub mod kind;
 
 // A value to set. Text, and the name of a field, stand beside it.
-#[derive(Drop)]
+#[derive(Clone, Copy)]
 pub enum Value {
     Whole(i64),
     Float(u32),
@@ -12,7 +13,7 @@ pub enum Value {
 }
 
 // What setting an element answers: the number of the question that was answered with no, or done.
-#[derive(Drop)]
+#[derive(Clone, Copy)]
 pub enum Stored {
     Refused(u8),
     Done,
@@ -20,7 +21,7 @@ pub enum Stored {
 
 // What reading an element answers. Text stands in the lent memory, so many bytes of it. Fields: words 1 and 2 of T, C and R,
 // and word 0 with the bits that have no name cleared.
-#[derive(Drop)]
+#[derive(Clone, Copy)]
 pub enum Element {
     Refused(u8),
     Whole(i32),

@@ -1,9 +1,10 @@
 // Whole numbers and their bits in two's complement.
+#![tactic(auto)]
 ghost use Rattle.std.specs.Prelude.{◌≡◌, ◌-◌};
 ghost use Rattle.element_whole.specs.Whole.{joined, bits_of, is_zero as whole_is_zero, signed};
 
 // A number's sign, and n of n or of -(n + 1).
-#[derive(Drop)]
+#[derive(Clone, Copy)]
 pub struct Parted {
     pub negative: bool,
     pub size: u64,
@@ -45,7 +46,7 @@ pub fn signed_long(l: u32) -> i32
 }
 
 // The bits of a number, where it is in range.
-#[derive(Drop)]
+#[derive(Clone, Copy)]
 pub enum Bits {
     In(u64),
     Out,

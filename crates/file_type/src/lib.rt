@@ -1,10 +1,11 @@
 // Data file types: names, PCCC type codes, element sizes.
+#![tactic(auto)]
 ghost use Rattle.std.specs.Prelude.{◌≡◌, ◌≤◌, take};
 ghost use Rattle.base.specs.Chars.{spelled};
 ghost use Rattle.file_type.specs.Fields.{place_of, letters_in};
 ghost use Rattle.file_type.specs.Table.{row, Named, of_code, element_size, of_name};
 
-#[derive(Drop)]
+#[derive(Clone, Copy)]
 pub enum FileType {
     O,
     I,
@@ -24,21 +25,21 @@ pub enum FileType {
 }
 
 // What a code or a name stands for.
-#[derive(Drop)]
+#[derive(Clone, Copy)]
 pub enum Known {
     Is(FileType),
     Unknown,
 }
 
 // A name: its first `len` bytes.
-#[derive(Drop)]
+#[derive(Clone, Copy)]
 pub struct Name {
     pub text: [u8; 3],
     pub len: usize,
 }
 
 // What a name stands for in an element of T, C or R: word 1 or 2, or a bit of word 0.
-#[derive(Drop)]
+#[derive(Clone, Copy)]
 pub enum Field {
     Word(u8),
     Bit(u8),

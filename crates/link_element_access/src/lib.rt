@@ -1,4 +1,5 @@
 // Element access of the C interface: the covered parts of reading and setting an element by a type code.
+#![tactic(auto)]
 ghost use Rattle.std.specs.Prelude.{◌≡◌, length};
 ghost use Rattle.processor_soundness.specs.Sound.{sound_by};
 ghost use Rattle.file_type.specs.Table.{of_code};
@@ -13,7 +14,7 @@ use processor_table::Seen;
 
 // An element that is to be read: a file's number, its type code, and the place in it.
 #[repr(C)]
-#[derive(Drop)]
+#[derive(Clone, Copy)]
 pub struct SlcSpot {
     pub number: u16,
     pub code: u8,
@@ -22,7 +23,7 @@ pub struct SlcSpot {
 
 // An element that is to be set, and the value.
 #[repr(C)]
-#[derive(Drop)]
+#[derive(Clone, Copy)]
 pub struct SlcSetting {
     pub number: u16,
     pub code: u8,

@@ -1,4 +1,5 @@
 // The records of the C interface for values and elements: what is to be set and what is read, told in numbers.
+#![tactic(auto)]
 ghost use Rattle.std.specs.Prelude.{◌≡◌, length};
 ghost use Rattle.element_spec.specs.Decode.{decoded};
 ghost use Rattle.element_spec.specs.Encode.{encoded};
@@ -20,7 +21,7 @@ const FIELD: u8 = 4;
 
 // A value to set, by its kind. Text, and the name of a field, stand in lent memory.
 #[repr(C)]
-#[derive(Drop)]
+#[derive(Clone, Copy)]
 pub struct SlcValue {
     pub kind: u8,
     pub a: i64,
@@ -30,7 +31,7 @@ pub struct SlcValue {
 
 // What reading an element answers, by its kind. Text stands in the lent memory.
 #[repr(C)]
-#[derive(Drop)]
+#[derive(Clone, Copy)]
 pub struct SlcElement {
     pub refused: u8,
     pub kind: u8,

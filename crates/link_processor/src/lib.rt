@@ -1,5 +1,6 @@
 // The simulated processor's records of the C interface, and the covered parts of its exported calls: each calls a proved function and tells
 // its answer in numbers.
+#![tactic(auto)]
 ghost use Rattle.std.specs.Prelude.{◌≡◌};
 ghost use Rattle.processor_build_spec.specs.Plans.{finish_of};
 ghost use Rattle.processor_refinement.specs.CallBySurvey.{respond_of, show_of};
@@ -13,7 +14,7 @@ use processor_table::Seen;
 
 // What a command answers: 0 and the length of the reply, or the number of the refusal.
 #[repr(C)]
-#[derive(Drop)]
+#[derive(Clone, Copy)]
 pub struct SlcDone {
     pub slc: Slc,
     pub refused: u8,
@@ -22,7 +23,7 @@ pub struct SlcDone {
 
 // What building answers.
 #[repr(C)]
-#[derive(Drop)]
+#[derive(Clone, Copy)]
 pub struct SlcBuilt {
     pub slc: Slc,
     pub refused: u8,

@@ -17,7 +17,7 @@ pub fn reading_of(reading: u8) -> Reading
 }
 
 // What a number says to write.
-#[derive(Drop)]
+#[derive(Clone, Copy)]
 pub enum WriteKind {
     Is(WriteValue),
     Unknown,

@@ -9,7 +9,7 @@ use request::Request;
 
 // What may be missing is 0, beside a 0.
 #[repr(C)]
-#[derive(Drop)]
+#[derive(Clone, Copy)]
 pub struct SlcAddress {
     pub refused: u8,
     pub code: u8,
@@ -26,7 +26,7 @@ pub struct SlcAddress {
 
 // An address, and the length of the message.
 #[repr(C)]
-#[derive(Drop)]
+#[derive(Clone, Copy)]
 pub struct SlcRequest {
     pub address: SlcAddress,
     pub length: usize,

@@ -1,5 +1,6 @@
 // The records of the C interface that count what was written to lent memory, and those of the other answers of replies and the client's file
 // directory. `refused` is 0, or the number of the question that was answered with no.
+#![tactic(auto)]
 ghost use Rattle.std.specs.Prelude.{◌≡◌, ◌≤◌, length};
 ghost use Rattle.link_texts.specs.WrittenRecords.{swapped_record, dotted_record, message_record, status_record, listed_record, size_record, end_part, part_of, reply_part, written, Swaps};
 
@@ -12,7 +13,7 @@ use request_untagged::Message;
 
 // How many bytes or files were written.
 #[repr(C)]
-#[derive(Drop)]
+#[derive(Clone, Copy)]
 pub struct SlcWritten {
     pub refused: u8,
     pub length: usize,
@@ -20,14 +21,14 @@ pub struct SlcWritten {
 
 // A part of the caller's bytes.
 #[repr(C)]
-#[derive(Drop)]
+#[derive(Clone, Copy)]
 pub struct SlcPart {
     pub from: usize,
     pub length: usize,
 }
 
 #[repr(C)]
-#[derive(Drop)]
+#[derive(Clone, Copy)]
 pub struct SlcDirectorySize {
     pub refused: u8,
     pub bytes: i32,

@@ -1,5 +1,6 @@
 // The records of the C interface for file types and the names of their fields, and what makes them of the calls' answers: C has no enums that hold
 // values.
+#![tactic(auto)]
 ghost use Rattle.std.specs.Prelude.{◌≡◌, [], ◌≤◌};
 ghost use Rattle.link_types.specs.Types.{known_type, type_record, short_name, name_record, bit_name_in, word_name_in, field_in, field_record};
 
@@ -7,7 +8,7 @@ use file_type::{Field, FileType, Known, Name};
 
 // All is 0 where the type is not known.
 #[repr(C)]
-#[derive(Drop)]
+#[derive(Clone, Copy)]
 pub struct SlcFileType {
     pub known: u8,
     pub code: u8,
@@ -20,7 +21,7 @@ pub struct SlcFileType {
 
 // A name: its first `len` bytes.
 #[repr(C)]
-#[derive(Drop)]
+#[derive(Clone, Copy)]
 pub struct SlcName {
     pub len: u8,
     pub text: [u8; 3],
@@ -28,7 +29,7 @@ pub struct SlcName {
 
 // What a name stands for: nothing (0), a word (1) or a bit (2), and the place of the name among those of its kind.
 #[repr(C)]
-#[derive(Drop)]
+#[derive(Clone, Copy)]
 pub struct SlcField {
     pub kind: u8,
     pub index: u8,

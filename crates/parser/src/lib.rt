@@ -1,28 +1,29 @@
 // Reading a text of bytes part by part. A reader answers what it read and a cursor behind it.
+#![tactic(auto)]
 ghost use Rattle.std.specs.Prelude.{◌≡◌, ◌+◌, ◌*◌, min, drop};
 ghost use Rattle.parser_spec.specs.DecimalNumbers.{is_digit, digit_value, Run, most, number_of};
 ghost use Rattle.parser_spec.specs.Parts.{at_end, byte, numeral, digits, digits_in, count_number, count_of, before_byte};
 ghost use Rattle.parser.specs.CursorAnswers.{read_at, eaten_of, read_number_of, read_word_of};
 
 // A place in a text.
-#[derive(Drop)]
+#[derive(Clone, Copy)]
 pub struct Cur {
     pub i: usize,
 }
 
-#[derive(Drop)]
+#[derive(Clone, Copy)]
 pub enum Eaten {
     No,
     At(Cur),
 }
 
-#[derive(Drop)]
+#[derive(Clone, Copy)]
 pub enum ReadNumber {
     No,
     Got(u64, Cur),
 }
 
-#[derive(Drop)]
+#[derive(Clone, Copy)]
 pub enum ReadWord {
     No,
     Got(u16, Cur),

@@ -1,4 +1,5 @@
 // Characters of a text in UTF-8, read from a cursor on, and file letters.
+#![tactic(auto)]
 ghost use Rattle.std.specs.Prelude.{◌≡◌, [], ◌∷◌, ◌≤◌, drop};
 ghost use Rattle.parser_spec.specs.Characters.{◌to◌, byte_in, point_in, character as characters_character, well_formed, capital as characters_capital, utf8, letter_of};
 ghost use Rattle.parser.specs.CursorAnswers.{read_at, eaten_of, read_word_of};
@@ -7,7 +8,7 @@ ghost use Rattle.parser_characters.specs.CharacterAnswers.{character_of};
 use parser::{Cur, Eaten, ReadWord};
 
 // A code point.
-#[derive(Drop)]
+#[derive(Clone, Copy)]
 pub enum ReadCharacter {
     No,
     Got(u32, Cur),

@@ -1,4 +1,5 @@
 // The simulated processor's command, `Slc::pccc`, over the lent table.
+#![tactic(auto)]
 ghost use Rattle.std.specs.Prelude.{◌≡◌};
 ghost use Rattle.processor_spec.specs.Pccc.{Says};
 

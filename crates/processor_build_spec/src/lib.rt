@@ -1,18 +1,19 @@
 // Building a processor, the plan: the definitions of its parts, how a list of files is judged, and question 14.
+#![tactic(auto)]
 ghost use Rattle.std.specs.Prelude.{◌≡◌};
 ghost use Rattle.processor_build_spec.specs.Plans.{refused_with, room_for};
 
 use processor_spec::Refusal;
 
 // How many records and bytes a list of files has.
-#[derive(Drop)]
+#[derive(Clone, Copy)]
 pub struct Sums {
     pub records: usize,
     pub total: usize,
 }
 
 // How a list of files was judged, and how many records and bytes it has: 0 where it was refused.
-#[derive(Drop)]
+#[derive(Clone, Copy)]
 pub struct Judged {
     pub refusal: Refusal,
     pub records: usize,

@@ -1,5 +1,6 @@
 // The processor's calls for programs. Covered code can't lend a table of records, so here it is an array by value: `processor::pccc_on` answers
 // a command, and these build a processor and reach its elements.
+#![tactic(auto)]
 ghost use Rattle.std.specs.Prelude.{◌≡◌, length, replicate};
 ghost use Rattle.element_spec.specs.Decode.{Reads};
 ghost use Rattle.element_spec.specs.Encode.{Stores};
@@ -16,7 +17,7 @@ use processor_spec::{Built, FileRecord, Slc};
 use processor_table::Seen;
 
 // A processor that was built, and its file records.
-#[derive(Drop)]
+#[derive(Clone, Copy)]
 pub struct Raised {
     pub rows: [FileRecord; 256],
     pub built: Built,

@@ -1,4 +1,5 @@
 // Element access: reading and setting one element, by what the survey of the file table tells.
+#![tactic(auto)]
 ghost use Rattle.std.specs.Prelude.{◌≡◌, ◌≤◌, length};
 ghost use Rattle.element_spec.specs.Decode.{Reads};
 ghost use Rattle.element_spec.specs.Encode.{Stores};
@@ -12,7 +13,7 @@ use processor_spec::Slc;
 use processor_table::Seen;
 
 // An element that is to be read: a file's number and type, and the place in it.
-#[derive(Drop)]
+#[derive(Clone, Copy)]
 pub struct Spot {
     pub number: u16,
     pub file_type: FileType,
@@ -20,7 +21,7 @@ pub struct Spot {
 }
 
 // An element that is to be set, and the value. Text, and the name of a field, stand in lent memory.
-#[derive(Drop)]
+#[derive(Clone, Copy)]
 pub struct Setting {
     pub number: u16,
     pub file_type: FileType,

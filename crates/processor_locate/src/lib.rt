@@ -1,4 +1,5 @@
 // Where an access begins in the data memory, and parts of lent memories.
+#![tactic(auto)]
 ghost use Rattle.std.specs.Prelude.{◌≡◌, take, drop};
 ghost use Rattle.processor_locate.specs.Locate.{locate_by, place_of};
 
@@ -6,7 +7,7 @@ use processor_query::Query;
 use processor_table::Seen;
 
 // Where an access begins in the data memory.
-#[derive(Drop)]
+#[derive(Clone, Copy)]
 pub enum Located {
     No,
     At(usize),

@@ -1,43 +1,44 @@
 // The parameters of a command, the bytes behind its function byte: a reader whose place moves.
+#![tactic(auto)]
 ghost use Rattle.std.specs.Prelude.{◌≡◌};
 ghost use Rattle.processor_params.specs.Take.{byte_at, address_at, took_byte, took_word};
 ghost use Rattle.processor_params.specs.Header.{no_header, gathered, header_of};
 
 // The place in the parameters. The bytes are passed beside it.
-#[derive(Drop)]
+#[derive(Clone, Copy)]
 pub struct Params {
     pub pos: usize,
 }
 
 // A byte, where one was left.
-#[derive(Drop)]
+#[derive(Clone, Copy)]
 pub enum TakenByte {
     Value(u8),
     Missing,
 }
 
 // An address, where a whole one was left.
-#[derive(Drop)]
+#[derive(Clone, Copy)]
 pub enum TakenWord {
     Value(u16),
     Missing,
 }
 
 // What stands at a place, and the place behind it; where nothing is left, the place itself.
-#[derive(Drop)]
+#[derive(Clone, Copy)]
 pub struct ByteStep {
     pub got: TakenByte,
     pub next: usize,
 }
 
-#[derive(Drop)]
+#[derive(Clone, Copy)]
 pub struct WordStep {
     pub got: TakenWord,
     pub next: usize,
 }
 
 // What stands in front of each access, and the place behind it. All is 0 where it isn't all there.
-#[derive(Drop)]
+#[derive(Clone, Copy)]
 pub struct Header {
     pub whole: bool,
     pub size: u8,

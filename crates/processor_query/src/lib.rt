@@ -1,4 +1,5 @@
 // What a command says, read once, by its bytes and the type text alone.
+#![tactic(auto)]
 mod functions;
 
 ghost use Rattle.std.specs.Prelude.{◌≡◌, ◌≤◌, length, take, drop};
@@ -12,7 +13,7 @@ use processor_spec::Slc;
 
 // What is wanted: nothing that is legal (status 10), nothing that can be had (status F0, extended 06), the diagnostic status, the oldest datalog
 // entry, the directory, or bytes of a file.
-#[derive(Drop)]
+#[derive(Clone, Copy)]
 pub enum Wants {
     Illegal,
     Bad,
@@ -24,7 +25,7 @@ pub enum Wants {
 }
 
 // Where the directory lies, by the processor's family.
-#[derive(Drop)]
+#[derive(Clone, Copy)]
 pub struct Layout {
     // place of the first row
     pub first: u8,
@@ -37,7 +38,7 @@ pub struct Layout {
     pub constant: u16,
 }
 
-#[derive(Drop)]
+#[derive(Clone, Copy)]
 pub struct Query {
     // the file that is asked for, 0 where none is
     pub number: u16,

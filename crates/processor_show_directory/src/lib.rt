@@ -1,4 +1,5 @@
 // What a command does that asks for the directory. What the command says, what the file table holds and the directory are told by value.
+#![tactic(auto)]
 ghost use Rattle.std.specs.Prelude.{◌≡◌, true, [], ◌≤◌, length};
 ghost use Rattle.processor_spec.specs.Frame.{well_formed};
 ghost use Rattle.processor_spec.specs.Pccc.{left};

@@ -1,8 +1,9 @@
 // The simulated processor: its plain data. What the data means, and what the processor does, are the definitions in specs/.
+#![tactic(auto)]
 
 // A file: its number, its type code, and where its bytes lie in the data memory.
 #[repr(C)]
-#[derive(Drop)]
+#[derive(Clone, Copy)]
 pub struct FileRecord {
     pub number: u16,
     pub code: u8,
@@ -12,7 +13,7 @@ pub struct FileRecord {
 
 // A processor, by value. Its file records, its data and its datalog stand in lent memories.
 #[repr(C)]
-#[derive(Drop)]
+#[derive(Clone, Copy)]
 pub struct Slc {
     // records in use, from the table's start
     pub files: usize,
@@ -24,35 +25,35 @@ pub struct Slc {
 }
 
 // The number of the first question that was answered with no, where one was.
-#[derive(Drop)]
+#[derive(Clone, Copy)]
 pub enum Refusal {
     None,
     Number(u8),
 }
 
 // What a command answers: the number of the question that was answered with no, or how many bytes of the reply memory are the reply.
-#[derive(Drop)]
+#[derive(Clone, Copy)]
 pub enum Answered {
     Refused(u8),
     Reply(usize),
 }
 
 // The processor as a command leaves it, and the answer.
-#[derive(Drop)]
+#[derive(Clone, Copy)]
 pub struct Done {
     pub slc: Slc,
     pub answered: Answered,
 }
 
 // What building answers.
-#[derive(Drop)]
+#[derive(Clone, Copy)]
 pub enum Made {
     Refused(u8),
     Ready,
 }
 
 // The processor that was built; where building was refused, one that has no file.
-#[derive(Drop)]
+#[derive(Clone, Copy)]
 pub struct Built {
     pub slc: Slc,
     pub made: Made,

@@ -1,4 +1,5 @@
 // The lent list of file records: one pass tells whether it is sound, and the record that is sought.
+#![tactic(auto)]
 ghost use Rattle.std.specs.Prelude.{◌≡◌};
 ghost use Rattle.processor_table.specs.Survey.{lost_of, survey_of};
 ghost use Rattle.processor_table.specs.SurveySteps.{whole_of, follows_of, first_number, begun_of, passed_of, concluded_of};
@@ -6,7 +7,7 @@ ghost use Rattle.processor_table.specs.SurveySteps.{whole_of, follows_of, first_
 use processor_spec::FileRecord;
 
 // What one pass over the records in use tells. Of unsound records it tells nothing.
-#[derive(Drop)]
+#[derive(Clone, Copy)]
 pub struct Seen {
     pub sound: bool,
     // one above the last number
@@ -37,7 +38,7 @@ fn whole(code: u8, length: u16) -> bool
 
 // What the pass has seen so far. A record that may not follow makes `next` 65,535, so that none may follow it.
 // Of the record found it holds the fields apart, and a code of 0 until there is one: they then stay in registers.
-#[derive(Drop)]
+#[derive(Clone, Copy)]
 pub struct Pass {
     pub next: u16,
     pub total: u32,

@@ -1,4 +1,5 @@
 // The texts of the status codes of a reply, and how a text is said.
+#![tactic(auto)]
 ghost use Rattle.std.proofs.Math.Option.{some};
 ghost use Rattle.std.specs.Prelude.{take};
 ghost use Rattle.reply_status_text.specs.Texts.{text_of, Tells};
@@ -7,7 +8,7 @@ ghost use Rattle.reply_status_text.specs.Texts.{text_of, Tells};
 pub const ROOM: usize = 96;
 
 // How long a text is that was written, or why none was: there is nothing to say, or a question was answered with no.
-#[derive(Drop)]
+#[derive(Clone, Copy)]
 pub enum StatusText {
     Nothing,
     Written(usize),

@@ -1,4 +1,5 @@
 // The frame of a request: who asks, the command, the sequence number; and the manual's typed logical layouts.
+#![tactic(auto)]
 pub mod put;
 
 ghost use Rattle.std.specs.Prelude.{◌≡◌, length};
@@ -7,14 +8,14 @@ ghost use Rattle.request_frame.specs.RequestFrame.{default_requestor, typed, typ
 
 // Who asks: two vendor bytes and four serial bytes, as sent.
 #[repr(C)]
-#[derive(Drop)]
+#[derive(Clone, Copy)]
 pub struct Requestor {
     pub vid: [u8; 2],
     pub vsn: [u8; 4],
 }
 
 // Where a typed logical command points: file number, type code, element, sub-element.
-#[derive(Drop)]
+#[derive(Clone, Copy)]
 pub struct Target {
     pub file: u16,
     pub code: u8,

@@ -1,4 +1,5 @@
 // Reads and writes of an address text: their definitions (specs/), questions 3 and 5 of a read, and where a request points.
+#![tactic(auto)]
 ghost use Rattle.std.specs.Prelude.{◌≡◌};
 ghost use Rattle.address_spec.specs.Elements.{elements_of};
 ghost use Rattle.address_spec.specs.Spelling.{or_zero};
@@ -9,7 +10,7 @@ use address_spec::Address;
 use request_frame::Target;
 
 // What to write. Raw bytes and text stand beside it.
-#[derive(Drop)]
+#[derive(Clone, Copy)]
 pub enum WriteValue {
     Raw,
     Bool(bool),
@@ -17,14 +18,14 @@ pub enum WriteValue {
 }
 
 // The address and the length of the message, or the number of the question that was answered with no.
-#[derive(Drop)]
+#[derive(Clone, Copy)]
 pub enum Request {
     Refused(u8),
     Built(Address, usize),
 }
 
 // A size field.
-#[derive(Drop)]
+#[derive(Clone, Copy)]
 pub enum Size {
     No,
     Is(u8),

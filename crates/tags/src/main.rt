@@ -1,4 +1,5 @@
 // Reads tags by line, as new entries, and prints the read request of each in capital hexadecimal, or `refused` and the number.
+#![tactic(auto)]
 ghost use Rattle.std.specs.Prelude.{◌≡◌, true, false, ◌≤◌, length};
 ghost use Rattle.tags_stream.specs.Pieces.{rest, held, kept_by};
 
@@ -6,7 +7,7 @@ use libc::{STDIN_FILENO, STDOUT_FILENO};
 use tags_stream::Line;
 
 // The line that goes on, and whether to read on.
-#[derive(Drop)]
+#[derive(Clone, Copy)]
 struct Went {
     line: Line,
     open: bool,

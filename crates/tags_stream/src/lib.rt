@@ -1,11 +1,12 @@
 // What the program `tags` does, as functions on slices: the input comes in pieces, cut anyhow, and memory is bounded.
+#![tactic(auto)]
 ghost use Rattle.std.specs.Prelude.{◌≡◌, [], ◌+◌, ◌*◌, ◌≤◌, length};
 ghost use Rattle.tags_stream.specs.Pieces.{keeping, Feeds, Finishes};
 ghost use Rattle.tags_stream.specs.FeedSteps.{Stepped, Ran};
 
 // What is kept of a line that has not ended: its first bytes, up to 256.
 #[repr(C)]
-#[derive(Drop)]
+#[derive(Clone, Copy)]
 pub struct Line {
     pub bytes: [u8; 256],
     pub kept: usize,
@@ -13,7 +14,7 @@ pub struct Line {
 
 // The line that goes on behind a piece of the input, how many bytes of the piece were taken, and how many of the output are in use.
 #[repr(C)]
-#[derive(Drop)]
+#[derive(Clone, Copy)]
 pub struct Fed {
     pub line: Line,
     pub taken: usize,
@@ -21,7 +22,7 @@ pub struct Fed {
 }
 
 // How many bytes of the line are kept, and how many of the output are in use.
-#[derive(Drop)]
+#[derive(Clone, Copy)]
 struct Went {
     kept: usize,
     used: usize,

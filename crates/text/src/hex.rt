@@ -92,7 +92,7 @@ fn all_digits(s: &[u8]) -> bool
 }
 
 // How many bytes were read, and whether the text was a byte string that fits.
-#[derive(Drop)]
+#[derive(Clone, Copy)]
 pub struct Bytes {
     pub n: usize,
     pub good: bool,
@@ -157,7 +157,7 @@ pub fn unhex(s: &[u8], out: &mut [u8]) -> Bytes
 }
 
 // What a code may be: exactly two digits.
-#[derive(Drop)]
+#[derive(Clone, Copy)]
 pub enum Byte {
     No,
     Is(u8),
@@ -176,7 +176,7 @@ pub fn code(s: &[u8]) -> Byte
 }
 
 // What the bits of a float may be: exactly eight digits.
-#[derive(Drop)]
+#[derive(Clone, Copy)]
 pub enum Long {
     No,
     Is(u32),

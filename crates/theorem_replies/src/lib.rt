@@ -1,1 +1,2 @@
 // No code: proofs/Replies.antt says that the calls for a reply from the requester's id on read what the processor put there.
+#![tactic(auto)]

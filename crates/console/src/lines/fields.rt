@@ -9,7 +9,7 @@ use text::{Byte, Long};
 // the bits of a float, of which a line has one or one list. `why` is 0, or
 // why the line is none of the protocol; `area` is who answers the call, `kind` a place among the call's kinds, from 1 on. The call begins at
 // `start`, its tag is read as a new entry where `new` says so, and its output has `room` bytes or rows.
-#[derive(Drop)]
+#[derive(Clone, Copy)]
 pub struct Args {
     pub why: u8,
     pub area: Area,
@@ -218,7 +218,7 @@ fn all(read: Args, line: &[u8], from: usize, shapes: &[u8], space: &mut [u8]) ->
 }
 
 // `why`, `new`, `room` and `start` of `Args`.
-#[derive(Drop)]
+#[derive(Clone, Copy)]
 pub struct Prefix {
     pub why: u8,
     pub new: bool,
@@ -226,7 +226,7 @@ pub struct Prefix {
     pub start: usize,
 }
 
-#[derive(Drop)]
+#[derive(Clone, Copy)]
 struct Room {
     why: u8,
     room: usize,
@@ -269,7 +269,7 @@ fn room_of(line: &[u8]) -> Room {
 }
 
 // `new CALL ..`, or CALL alone: where CALL begins, or that nothing stands behind `new`.
-#[derive(Drop)]
+#[derive(Clone, Copy)]
 struct New {
     why: u8,
     new: bool,

@@ -4,7 +4,7 @@ use crate::lines::fields;
 use crate::lines::fields::Args;
 
 // Who answers a call.
-#[derive(Drop)]
+#[derive(Clone, Copy)]
 pub enum Area {
     // no call of the protocol
     None,

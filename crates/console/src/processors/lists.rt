@@ -5,14 +5,14 @@ use decimal::Decimal;
 use text::{Byte, Bytes};
 
 // How many entries a list has; 0, or why it is none (`answers`).
-#[derive(Drop)]
+#[derive(Clone, Copy)]
 pub struct List {
     pub n: usize,
     pub why: u8,
 }
 
 // A file: number, code, elements. What is above 32 bits is held to 4,294,967,295, which is refused alike.
-#[derive(Drop)]
+#[derive(Clone, Copy)]
 struct Wanted {
     row: [u32; 3],
     why: u8,

@@ -20,7 +20,7 @@ fn data(n: u16, store: &[u8]) -> &[u8] {
 }
 
 // A number of 64 bits in two halves.
-#[derive(Drop)]
+#[derive(Clone, Copy)]
 struct Hash {
     high: u64,
     low: u64,

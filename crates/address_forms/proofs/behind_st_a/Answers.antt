@@ -1,0 +1,16 @@
+use Rattle.address_spec.proofs.Forms.{no_form, finish, same}
+use Rattle.address_spec.proofs.FormReaders.{forms}
+use borrow.Author.Rules.{rules}
+use Rattle.address_forms.proofs.behind_st_a.Goals as goal
+
+pub returns-in_default : goal.returns-in_default
+returns-in_default c = search (forms, no_form, rules) depth 8
+
+pub returns-in_default-digits_in : goal.returns-in_default-digits_in
+returns-in_default-digits_in c = search (forms, no_form, rules) depth 8
+
+pub returns-in_default-count : goal.returns-in_default-count
+returns-in_default-count c = search (forms, no_form, rules) depth 8
+
+pub returns : goal.returns
+returns c = search (forms, finish, same, rules) depth 8

@@ -1,0 +1,13 @@
+use Rattle.address_spec.specs.Spelling.{optional_bit}
+use Rattle.address_spec.proofs.FormReaders.{phrases}
+use borrow.Author.Rules.{rules}
+use Rattle.address_phrases.proofs.optional_bit.Goals as goal
+
+pub returns-in_default : goal.returns-in_default
+returns-in_default c = search (phrases, rules)
+
+pub returns-in_default-digits_in : goal.returns-in_default-digits_in
+returns-in_default-digits_in c = search (phrases, rules)
+
+pub returns : goal.returns
+returns c = search (phrases, rules)

@@ -1,0 +1,20 @@
+use Prim.Native.Nat.{◌≤◌, ◌-◌}
+use mathlib.Core.Path.{◌≡◌}
+use lib.ListN.{length, drop}
+use Rattle.parser_spec.specs.Characters.{character}
+use Rattle.address_spec.specs.Spelling.{separates, cuts, element_name}
+use Rattle.address_timers.proofs.Timers.{cuts_start, cuts_none, cuts_hit, cuts_miss}
+use borrow.Author.Rules.{rules}
+use Rattle.address_timers.proofs.element_name.Goals as goal
+
+pub loop-k-init : goal.loop-k-init
+loop-k-init c = ensures
+
+pub returns-in-Got : goal.returns-in-Got
+returns-in-Got c = search (cuts_hit, rules)
+
+pub loop-k-preserved : goal.loop-k-preserved
+loop-k-preserved c = (search rules, search (cuts_miss, rules))
+
+pub returns : goal.returns
+returns c = search (cuts_none, rules)

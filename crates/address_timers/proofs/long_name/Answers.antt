@@ -1,0 +1,15 @@
+use Rattle.address_spec.specs.Spelling.{ct_names}
+use Rattle.address_timers.proofs.Timers.{long_is, long_not}
+use mathlib.Core.Path.{refl}
+use native.Mathlib.Omega.{arith}
+use borrow.Author.Rules.{rules}
+use Rattle.address_timers.proofs.long_name.Goals as goal
+
+pub returns-in-5263941 : goal.returns-in-5263941
+returns-in-5263941 c = search (long_is, rules)
+
+pub returns-in-4277059 : goal.returns-in-4277059
+returns-in-4277059 c = search (long_is, rules)
+
+pub returns-in_default : goal.returns-in_default
+returns-in_default c = rest

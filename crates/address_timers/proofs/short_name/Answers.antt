@@ -1,0 +1,33 @@
+use Rattle.address_spec.specs.Spelling.{ct_names}
+use Rattle.address_timers.proofs.Timers.{short_is, short_not}
+use mathlib.Core.Path.{refl}
+use native.Mathlib.Omega.{arith}
+use borrow.Author.Rules.{rules}
+use Rattle.address_timers.proofs.short_name.Goals as goal
+
+pub returns-in-17742 : goal.returns-in-17742
+returns-in-17742 c = search (short_is, rules)
+
+pub returns-in-21588 : goal.returns-in-21588
+returns-in-21588 c = search (short_is, rules)
+
+pub returns-in-17486 : goal.returns-in-17486
+returns-in-17486 c = search (short_is, rules)
+
+pub returns-in-17237 : goal.returns-in-17237
+returns-in-17237 c = search (short_is, rules)
+
+pub returns-in-17220 : goal.returns-in-17220
+returns-in-17220 c = search (short_is, rules)
+
+pub returns-in-20310 : goal.returns-in-20310
+returns-in-20310 c = search (short_is, rules)
+
+pub returns-in-21838 : goal.returns-in-21838
+returns-in-21838 c = search (short_is, rules)
+
+pub returns-in-21825 : goal.returns-in-21825
+returns-in-21825 c = search (short_is, rules)
+
+pub returns-in_default : goal.returns-in_default
+returns-in_default c = rest

@@ -1,0 +1,35 @@
+use Rattle.element_decode.proofs.DecodeAnswers.{get_by, get_other, get_plain, get_short}
+use Rattle.element_spec.specs.declared.kind.ElementKind.TheVariants as kind
+use Rattle.element_spec.proofs.ByKind.{room_for}
+use borrow.Author.Rules.{rules}
+use Rattle.element_decode.proofs.decode_element.Goals as goal
+
+pub returns-then-element-element_size : goal.returns-then-element-element_size
+returns-then-element-element_size c = search (get_short, rules)
+
+pub ascii-requires : goal.ascii-requires
+ascii-requires c = Ascii, rules)
+
+pub line-requires : goal.line-requires
+line-requires c = Line, rules)
+
+pub returns-in-Word : goal.returns-in-Word
+returns-in-Word c = Word, rules)
+
+pub returns-in-Long : goal.returns-in-Long
+returns-in-Long c = Long, rules)
+
+pub returns-in-Float : goal.returns-in-Float
+returns-in-Float c = Float, rules)
+
+pub returns-in-Ascii : goal.returns-in-Ascii
+returns-in-Ascii c = Ascii, rules)
+
+pub returns-in-Line : goal.returns-in-Line
+returns-in-Line c = Line, rules)
+
+pub returns-in-Fields : goal.returns-in-Fields
+returns-in-Fields c = Fields, rules)
+
+pub returns-in-Other : goal.returns-in-Other
+returns-in-Other c = search (get_other, rules)

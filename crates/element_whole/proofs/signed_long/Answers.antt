@@ -1,0 +1,15 @@
+use mathlib.Core.Path.{refl}
+use native.Mathlib.Omega.{arith}
+use mir.Syntax.{w32}
+use Rattle.element_whole.proofs.Signed.{signed_low, signed_fits, signed_high}
+use borrow.Author.Rules.{rules}
+use Rattle.element_whole.proofs.signed_long.Goals as goal
+
+pub returns-then-l-lt2147483648 : goal.returns-then-l-lt2147483648
+returns-then-l-lt2147483648 c = true
+
+pub overflow_sub-result-2 : goal.overflow_sub-result-2
+overflow_sub-result-2 c = false (omega arith)
+
+pub returns : goal.returns
+returns c = false (omega arith)

@@ -1,0 +1,13 @@
+use Prim.Native.Nat.{◌+◌, ◌-◌, ◌≤◌, min}
+use mathlib.Core.Path.{◌≡◌}
+use lib.ListN.{length, drop}
+use Rattle.parser_spec.specs.Parts.{before_byte}
+use Rattle.parser.proofs.DecimalNumbers.{before_end, before_here, before_more}
+use borrow.Author.Rules.{rules}
+use Rattle.parser.proofs.find.Given as goal
+
+abbrev pub invariant-loop-i : goal.invariant-loop-i
+invariant-loop-i l = l.i + before_byte l.v (drop l.i l.s) ≡ before_byte l.v l.s
+
+abbrev pub decreases-loop-i : goal.decreases-loop-i
+decreases-loop-i l = length l.s - l.i

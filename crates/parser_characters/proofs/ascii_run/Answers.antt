@@ -1,0 +1,13 @@
+use Prim.Native.Nat.{◌-◌}
+use mathlib.Core.Path.{◌≡◌, refl}
+use lib.ListN.{length, drop}
+use Rattle.parser_spec.specs.Characters.{well_formed}
+use Rattle.parser_characters.proofs.CharacterReaders.{formed_small}
+use borrow.Author.Rules.{rules}
+use Rattle.parser_characters.proofs.ascii_run.Goals as goal
+
+pub loop-i-init : goal.loop-i-init
+loop-i-init c = refl
+
+pub loop-i-preserved : goal.loop-i-preserved
+loop-i-preserved c = search (formed_small, rules)

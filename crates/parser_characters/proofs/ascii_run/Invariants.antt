@@ -1,0 +1,13 @@
+use Prim.Native.Nat.{◌-◌}
+use mathlib.Core.Path.{◌≡◌, refl}
+use lib.ListN.{length, drop}
+use Rattle.parser_spec.specs.Characters.{well_formed}
+use Rattle.parser_characters.proofs.CharacterReaders.{formed_small}
+use borrow.Author.Rules.{rules}
+use Rattle.parser_characters.proofs.ascii_run.Given as goal
+
+abbrev pub invariant-loop-i : goal.invariant-loop-i
+invariant-loop-i l = well_formed (drop l.i l.s) ≡ well_formed l.s
+
+abbrev pub decreases-loop-i : goal.decreases-loop-i
+decreases-loop-i l = length l.s - l.i

@@ -1,0 +1,41 @@
+use native.Mathlib.Omega.{arith}
+use Rattle.parser_spec.specs.Characters.{table}
+use Rattle.parser_characters.proofs.CharacterReaders.{character_end, small, by_row, between, behind}
+use borrow.Author.Rules.{rules}
+use Rattle.parser_characters.proofs.character.Goals as goal
+
+pub returns-then-s-i : goal.returns-then-s-i
+returns-then-s-i c = search (character_end, rules)
+
+pub returns-in-224 : goal.returns-in-224
+returns-in-224 c = ensures
+
+pub returns-in-237 : goal.returns-in-237
+returns-in-237 c = ensures
+
+pub returns-in-240 : goal.returns-in-240
+returns-in-240 c = ensures
+
+pub returns-in-244 : goal.returns-in-244
+returns-in-244 c = ensures
+
+pub returns-in-0-to-127 : goal.returns-in-0-to-127
+returns-in-0-to-127 c = search (small, rules)
+
+pub returns-in-194-to-223 : goal.returns-in-194-to-223
+returns-in-194-to-223 c = ensures
+
+pub returns-in-225-to-236 : goal.returns-in-225-to-236
+returns-in-225-to-236 c = ensures
+
+pub returns-in-238-to-239 : goal.returns-in-238-to-239
+returns-in-238-to-239 c = ensures
+
+pub returns-in-241-to-243 : goal.returns-in-241-to-243
+returns-in-241-to-243 c = ensures
+
+pub returns-in_default : goal.returns-in_default
+returns-in_default c = search (between, rules)
+
+pub returns-in_default-2 : goal.returns-in_default-2
+returns-in_default-2 c = search (behind, rules)

@@ -1,0 +1,6 @@
+use Rattle.processor_build.proofs.Finishing.{slc_is}
+use borrow.Author.Rules.{rules}
+use Rattle.processor_build.proofs.slc_with.Goals as goal
+
+pub returns : goal.returns
+returns c = ensures

@@ -1,0 +1,13 @@
+use Prim.Native.Nat.{◌-◌, ◌≤◌, min}
+use mathlib.Core.Path.{◌≡◌, refl, ap, ◌∙◌}
+use native.Mathlib.Omega.{arith}
+use borrow.Author.Rules.{rules}
+use Rattle.processor_build_spec.specs.Plans.{stored}
+use Rattle.processor_by_value.proofs.RecordsByValue.{blank, none_yet, one_more, in_all}
+use Rattle.processor_by_value.proofs.laid.Given as goal
+
+abbrev pub invariant-loop-i : goal.invariant-loop-i
+invariant-loop-i l = (l.i ≤ l.m) × (l.m ≡ min l.count 256) × (l.rows ≡ stored l.files l.i blank)
+
+abbrev pub decreases-loop-i : goal.decreases-loop-i
+decreases-loop-i l = l.m - l.i

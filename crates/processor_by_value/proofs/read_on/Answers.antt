@@ -1,0 +1,7 @@
+use Rattle.processor_by_value.proofs.AccessByValue.{reads}
+use borrow.Author.Rules.{rules}
+use Rattle.processor_by_value.proofs.read_on.Reads as reads
+use Rattle.processor_by_value.proofs.read_on.Goals as goal
+
+pub returns : goal.returns
+returns c = search (reads, rules)

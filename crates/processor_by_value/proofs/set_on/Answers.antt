@@ -1,0 +1,6 @@
+use Rattle.processor_by_value.proofs.AccessByValue.{sets}
+use borrow.Author.Rules.{rules}
+use Rattle.processor_by_value.proofs.set_on.Goals as goal
+
+pub returns : goal.returns
+returns c = search (sets, rules)

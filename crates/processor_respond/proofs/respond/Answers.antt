@@ -1,0 +1,13 @@
+use Rattle.processor_refinement.proofs.Questions.{log_good, room_there, well_there}
+use Rattle.processor_respond.proofs.Responding.{refused_by_lem, responded}
+use borrow.Author.Rules.{rules}
+use Rattle.processor_respond.proofs.respond.Goals as goal
+
+pub obey-requires : goal.obey-requires
+obey-requires c = (search (well_there, rules), (search (log_good, rules), search (room_there, rules)))
+
+pub returns-in-Number : goal.returns-in-Number
+returns-in-Number c = search (refused_by_lem, rules)
+
+pub returns-in-None : goal.returns-in-None
+returns-in-None c = search (responded, rules)

@@ -1,0 +1,13 @@
+use Rattle.processor_refinement.proofs.Questions.{room_there, well_there}
+use Rattle.processor_show_directory.proofs.Showing.{unshown_by, shown}
+use borrow.Author.Rules.{rules}
+use Rattle.processor_show_directory.proofs.show.Goals as goal
+
+pub list-requires : goal.list-requires
+list-requires c = (search (well_there, rules), search (room_there, rules))
+
+pub returns-in-Number : goal.returns-in-Number
+returns-in-Number c = search (unshown_by, rules)
+
+pub returns-in-None : goal.returns-in-None
+returns-in-None c = search (shown, rules)

@@ -1,0 +1,9 @@
+use Rattle.file_type.specs.declared.Known.{Known}
+use Prim.Native.Nat.{ℕ}
+use Rattle.link_types.specs.Types.{name_record, bit_name_in}
+use Rattle.link_types.proofs.TypeRecords.{beside}
+use borrow.Author.Rules.{rules}
+use Rattle.slc_link.proofs.file_types.slc_bit_name.Goals as goal
+
+pub returns : goal.returns
+returns c = name_record (bit_name_in k i)), rules)

@@ -1,0 +1,10 @@
+use Rattle.file_type.specs.declared.Known.{Known}
+use Prim.Native.Nat.{ℕ}
+use mathlib.Core.List.{List}
+use Rattle.link_types.specs.Types.{field_record, field_in}
+use Rattle.link_types.proofs.TypeRecords.{beside}
+use borrow.Author.Rules.{rules}
+use Rattle.slc_link.proofs.file_types.slc_field_of.Goals as goal
+
+pub returns : goal.returns
+returns c = field_record (field_in k s)), rules)

@@ -1,7 +1,0 @@
-use borrow.Author.Rules.{rules}
-use Rattle.text.proofs.Pairs.{digit_low, digit_high}
-use Rattle.text.proofs.hex.digit.Statement.{statement}
-use Rattle.text.proofs.hex.digit.Tie as tie
-
-pub digit-spec : {M : Type 1} → statement M
-digit-spec = tie.close (tie.spec (λ c. search rules) (λ c. search rules) (λ c. search (digit_low, rules)) (λ c. search (digit_high, rules)))

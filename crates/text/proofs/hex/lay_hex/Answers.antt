@@ -1,0 +1,18 @@
+use Prim.Native.Nat.{◌+◌, ◌-◌, ◌*◌, ◌≤◌}
+use mathlib.Core.Path.{◌≡◌}
+use native.Mathlib.Omega.{arith}
+use lib.ListN.{length-set, length, drop}
+use borrow.Author.Rules.{rules}
+use Rattle.base.specs.Put.{put}
+use Rattle.text.specs.Hex.{hex}
+use Rattle.text.proofs.Pairs.{two_kept, hex_turn, hex_done}
+use Rattle.text.proofs.hex.lay_hex.Goals as goal
+
+pub bounds-out-p-in-loop-i : goal.bounds-out-p-in-loop-i
+bounds-out-p-in-loop-i c = simp length-set (omega arith)
+
+pub loop-i-preserved : goal.loop-i-preserved
+loop-i-preserved c = search (two_kept, hex_turn, rules)
+
+pub returns : goal.returns
+returns c = search (hex_done, rules)
