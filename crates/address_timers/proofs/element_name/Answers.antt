@@ -8,7 +8,7 @@ use borrow.Author.Rules.{rules}
 use Rattle.address_timers.proofs.element_name.Goals as goal
 
 pub loop-k-init : goal.loop-k-init
-loop-k-init c = ensures
+loop-k-init c = cuts_start _ _ _ _ _ c.least-k.ensures c.digit_run-run.ensures
 
 pub returns-in-Got : goal.returns-in-Got
 returns-in-Got c = search (cuts_hit, rules)

@@ -12,4 +12,4 @@ pub returns-in-4277059 : goal.returns-in-4277059
 returns-in-4277059 c = search (long_is, rules)
 
 pub returns-in_default : goal.returns-in_default
-returns-in_default c = rest
+returns-in_default c = long_not _ _ _ _ _ _ c.letter-x.ensures c.letter-y.ensures c.letter-z.ensures (omega arith) (omega arith) (omega arith) _ refl (search rules)

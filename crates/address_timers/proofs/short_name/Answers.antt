@@ -30,4 +30,4 @@ pub returns-in-21825 : goal.returns-in-21825
 returns-in-21825 c = search (short_is, rules)
 
 pub returns-in_default : goal.returns-in_default
-returns-in_default c = rest
+returns-in_default c = short_not _ _ _ _ c.letter-x.ensures c.letter-y.ensures (omega arith) (omega arith) _ refl (search rules)

@@ -51,4 +51,4 @@ pub returns-in-15 : goal.returns-in-15
 returns-in-15 c = search (mask_there, rules)
 
 pub returns-in_default : goal.returns-in_default
-returns-in_default c = rest
+returns-in_default c = mask_none _ (search rules)

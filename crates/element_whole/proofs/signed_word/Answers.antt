@@ -6,10 +6,10 @@ use borrow.Author.Rules.{rules}
 use Rattle.element_whole.proofs.signed_word.Goals as goal
 
 pub returns-then-w-lt32768 : goal.returns-then-w-lt32768
-returns-then-w-lt32768 c = true
+returns-then-w-lt32768 c = signed_low w16 65535 _ refl c.if-w-lt32768.true
 
 pub overflow_sub-result-2 : goal.overflow_sub-result-2
-overflow_sub-result-2 c = false (omega arith)
+overflow_sub-result-2 c = signed_fits w16 65535 _ refl c.if-w-lt32768.false (omega arith)
 
 pub returns : goal.returns
-returns c = false (omega arith)
+returns c = signed_high w16 65535 _ refl c.if-w-lt32768.false (omega arith)

@@ -8,31 +8,31 @@ pub returns-then-s-i : goal.returns-then-s-i
 returns-then-s-i c = search (character_end, rules)
 
 pub returns-in-224 : goal.returns-in-224
-returns-in-224 c = ensures
+returns-in-224 c = by_row _ _ (omega arith) 2 _ _ (omega arith) (omega arith) (omega arith) c.two_behind.ensures
 
 pub returns-in-237 : goal.returns-in-237
-returns-in-237 c = ensures
+returns-in-237 c = by_row _ _ (omega arith) 4 _ _ (omega arith) (omega arith) (omega arith) c.two_behind-in-237.ensures
 
 pub returns-in-240 : goal.returns-in-240
-returns-in-240 c = ensures
+returns-in-240 c = by_row _ _ (omega arith) 6 _ _ (omega arith) (omega arith) (omega arith) c.three_behind.ensures
 
 pub returns-in-244 : goal.returns-in-244
-returns-in-244 c = ensures
+returns-in-244 c = by_row _ _ (omega arith) 8 _ _ (omega arith) (omega arith) (omega arith) c.three_behind-in-244.ensures
 
 pub returns-in-0-to-127 : goal.returns-in-0-to-127
 returns-in-0-to-127 c = search (small, rules)
 
 pub returns-in-194-to-223 : goal.returns-in-194-to-223
-returns-in-194-to-223 c = ensures
+returns-in-194-to-223 c = by_row _ _ (omega arith) 1 _ _ (omega arith) (omega arith) (omega arith) c.one_behind.ensures
 
 pub returns-in-225-to-236 : goal.returns-in-225-to-236
-returns-in-225-to-236 c = ensures
+returns-in-225-to-236 c = by_row _ _ (omega arith) 3 _ _ (omega arith) (omega arith) (omega arith) c.two_behind-in-225-to-236.ensures
 
 pub returns-in-238-to-239 : goal.returns-in-238-to-239
-returns-in-238-to-239 c = ensures
+returns-in-238-to-239 c = by_row _ _ (omega arith) 5 _ _ (omega arith) (omega arith) (omega arith) c.two_behind-in-238-to-239.ensures
 
 pub returns-in-241-to-243 : goal.returns-in-241-to-243
-returns-in-241-to-243 c = ensures
+returns-in-241-to-243 c = by_row _ _ (omega arith) 7 _ _ (omega arith) (omega arith) (omega arith) c.three_behind-in-241-to-243.ensures
 
 pub returns-in_default : goal.returns-in_default
 returns-in_default c = search (between, rules)

@@ -3,4 +3,4 @@ use borrow.Author.Rules.{rules}
 use Rattle.processor_build.proofs.slc_with.Goals as goal
 
 pub returns : goal.returns
-returns c = ensures
+returns c = slc_is _ _ _ _ c.type_text.ensures

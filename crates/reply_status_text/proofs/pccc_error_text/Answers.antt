@@ -33,4 +33,4 @@ pub returns-in-240 : goal.returns-in-240
 returns-in-240 c = search (row_told 0xF0, rules)
 
 pub returns-in_default : goal.returns-in_default
-returns-in_default c = rest
+returns-in_default c = no_text _ _ (search rules)

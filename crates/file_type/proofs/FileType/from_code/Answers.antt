@@ -48,4 +48,4 @@ pub returns-in-148 : goal.returns-in-148
 returns-in-148 c = search (has_code, rules)
 
 pub returns-in_default : goal.returns-in_default
-returns-in_default c = rest
+returns-in_default c = no_code _ (search rules)

@@ -7,4 +7,4 @@ use borrow.Author.Rules.{rules}
 use Rattle.slc_link.proofs.file_types.slc_field_of.Goals as goal
 
 pub returns : goal.returns
-returns c = field_record (field_in k s)), rules)
+returns c = search (beside (λ (s : List ℕ) (k : Known). field_record (field_in k s)), rules)

@@ -6,4 +6,4 @@ use borrow.Author.Rules.{rules}
 use Rattle.slc_link.proofs.file_types.slc_word_name.Goals as goal
 
 pub returns : goal.returns
-returns c = name_record (word_name_in k i)), rules)
+returns c = search (beside (λ (i : ℕ) (k : Known). name_record (word_name_in k i)), rules)
