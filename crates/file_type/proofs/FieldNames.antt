@@ -92,18 +92,18 @@ module _ (t : FileType) (i : ℕ) where
   pub no_field : (n : ℕ) {r : Name} → n ≡ length (field_names t) → n ≤ i → Named [] r → Named (get_or (field_names t) i []) r
   no_field n {r} e h w = subst (λ (s : List ℕ). Named s r) (sym (get_or-eq_default (field_names t) [] (omega arith))) w
 
-  name_of : (n : ℕ) → i < length (field_names t) → length (get_or (field_names t) i []) ≡ n → n ≤ 3 → Named (get_or (field_names t) i []) (record { text = get_or texts (first_field t + i) []; len = n })
-  name_of n h e g = record { is = ap₂ name_of (there t i h) (sym e); fits = g }
+  name_of_lem : (n : ℕ) → i < length (field_names t) → length (get_or (field_names t) i []) ≡ n → n ≤ 3 → Named (get_or (field_names t) i []) (record { text = get_or texts (first_field t + i) []; len = n })
+  name_of_lem n h e g = record { is = ap₂ name_of (there t i h) (sym e); fits = g }
 
   module _ (n f : ℕ) (e : n ≡ length (field_names t)) (g : f ≡ first_field t) (h : i < n) where
     pub within_call : f + i < 23
     within_call = rw g (within t i (omega arith))
 
     pub word_field : i < 2 → Named (get_or (field_names t) i []) (record { text = get_or texts (f + i) []; len = 3 })
-    word_field b = rw g (name_of 3 (omega arith) (letters t i (omega arith) ∙ rw (lt-ltb i 2 b)) (lit≤ tt))
+    word_field b = rw g (name_of_lem 3 (omega arith) (letters t i (omega arith) ∙ rw (lt-ltb i 2 b)) (lit≤ tt))
 
     pub bit_field : 2 ≤ i → Named (get_or (field_names t) i []) (record { text = get_or texts (f + i) []; len = 2 })
-    bit_field b = rw g (name_of 2 (omega arith) (letters t i (omega arith) ∙ rw (le-ltb i 2 b)) (lit≤ tt))
+    bit_field b = rw g (name_of_lem 2 (omega arith) (letters t i (omega arith) ∙ rw (le-ltb i 2 b)) (lit≤ tt))
 
 -- ---- words and bits apart
 most : (t : FileType) → length (field_names t) ≤ 10

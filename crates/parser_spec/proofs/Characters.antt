@@ -186,9 +186,9 @@ module _ (b : ℕ) (s : List ℕ) where
       past_row r rows (omega (arith, ltb-true r.lead.high h p.0)) ∙ over_rows rows h p.1 l
 
   -- between the first row and the second, and behind the last
-  pub no_row : 0x80 ≤ b → b ≤ 0xC1 → character (b ∷ s) ≡ none
+  pub no_row_lem : 0x80 ≤ b → b ≤ 0xC1 → character (b ∷ s) ≡ none
   unfolding table
-  no_row l h = past_row _ _ l ∙ under_rows _ 0xC1 refl h
+  no_row_lem l h = past_row _ _ l ∙ under_rows _ 0xC1 refl h
 
   pub no_more : 0xF5 ≤ b → character (b ∷ s) ≡ none
   unfolding table
