@@ -4,12 +4,15 @@ use borrow.Author.Rules.{rules}
 use Rattle.address_forms.proofs.parse_form.Goals as goal
 
 pub returns-in-Is : goal.returns-in-Is
+unfolding form_of
 returns-in-Is c = search (try_this, try_next, rules)
 
 pub returns-in-Is-r2 : goal.returns-in-Is-r2
+unfolding form_of
 returns-in-Is-r2 c = search (try_this, try_next, rules)
 
 pub returns-in-Is-r3 : goal.returns-in-Is-r3
+unfolding form_of
 returns-in-Is-r3 c = search (try_this, try_next, rules)
 
 pub returns : goal.returns

@@ -5,7 +5,9 @@ use borrow.Author.Rules.{rules}
 use Rattle.address_forms.proofs.parse_st.Goals as goal
 
 pub returns-in_default : goal.returns-in_default
+unfolding sta
 returns-in_default c = search (forms, no_form, rules) depth 8
 
 pub returns : goal.returns
+unfolding sta
 returns c = search (forms, go_on, rules) depth 8

@@ -4,10 +4,13 @@ use borrow.Author.Rules.{rules}
 use Rattle.address_phrases.proofs.optional_bit.Goals as goal
 
 pub returns-in_default : goal.returns-in_default
+unfolding optional_bit
 returns-in_default c = search (phrases, rules)
 
 pub returns-in_default-digits_in : goal.returns-in_default-digits_in
+unfolding optional_bit
 returns-in_default-digits_in c = search (phrases, rules)
 
 pub returns : goal.returns
+unfolding optional_bit
 returns c = search (phrases, rules)

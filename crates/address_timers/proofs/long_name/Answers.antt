@@ -6,10 +6,13 @@ use borrow.Author.Rules.{rules}
 use Rattle.address_timers.proofs.long_name.Goals as goal
 
 pub returns-in-5263941 : goal.returns-in-5263941
+unfolding ct_names
 returns-in-5263941 c = search (long_is, rules)
 
 pub returns-in-4277059 : goal.returns-in-4277059
+unfolding ct_names
 returns-in-4277059 c = search (long_is, rules)
 
 pub returns-in_default : goal.returns-in_default
+unfolding ct_names
 returns-in_default c = long_not _ _ _ _ _ _ c.letter-x.ensures c.letter-y.ensures c.letter-z.ensures (omega arith) (omega arith) (omega arith) _ refl (search rules)

@@ -1,8 +1,0 @@
-use mathlib.Core.Path.{sym}
-use native.Mathlib.Omega.{arith}
-use lib.Seq.{length-take-le}
-use Rattle.console.proofs.processors.new.within.Statement.{statement}
-use Rattle.console.proofs.processors.new.within.Tie as tie
-
-pub within-spec : {M : Type 1} → statement M
-within-spec = tie.close (tie.spec (λ c. (omega arith, sym (length-take-le _ _ (omega arith)))) (λ c. (omega arith, sym (length-take-le _ _ (omega arith)))))
