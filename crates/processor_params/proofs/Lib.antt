@@ -1,3 +1,1 @@
 pub mod HeaderReader
-pub mod Taking
-pub mod Taken

@@ -1,6 +1,6 @@
 -- What stands at a place in the parameters, and the next place. "taking a byte or an address moves its position in place": a failed take
 -- leaves the place.
-use Rattle.std.specs.Prelude.{ℕ, ◌+◌, ◌-◌, List, length, drop}
+use Rattle.std.specs.Prelude.{ℕ, ◌-◌, List, length, drop}
 use Rattle.std.proofs.Math.Option.{Option, none, some}
 use Rattle.processor_spec.specs.Params.{number_of, address}
 use Rattle.processor_params.specs.declared.Params.{Params}

@@ -1,5 +1,6 @@
 // The parameters of a command, the bytes behind its function byte: a reader whose place moves.
 #![tactic(auto)]
+
 ghost use Rattle.std.specs.Prelude.{◌≡◌};
 ghost use Rattle.processor_params.specs.Take.{byte_at, address_at, took_byte, took_word};
 ghost use Rattle.processor_params.specs.Header.{no_header, gathered, header_of};
