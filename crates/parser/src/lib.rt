@@ -1,5 +1,6 @@
 // Reading a text of bytes part by part. A reader answers what it read and a cursor behind it.
 #![tactic(auto)]
+
 ghost use Rattle.std.specs.Prelude.{◌≡◌, ◌+◌, ◌*◌, min, drop};
 ghost use Rattle.parser_spec.specs.DecimalNumbers.{is_digit, digit_value, Run, most, number_of};
 ghost use Rattle.parser_spec.specs.Parts.{at_end, byte, numeral, digits, digits_in, count_number, count_of, before_byte};

@@ -1,9 +1,7 @@
-use Prim.Native.Nat.{◌+◌, ◌-◌, ◌≤◌, min}
+use Prim.Native.Nat.{◌+◌, ◌-◌, ◌≤◌}
 use mathlib.Core.Path.{◌≡◌}
 use lib.ListN.{length, drop}
 use Rattle.parser_spec.specs.DecimalNumbers.{digit_run}
-use Rattle.parser.proofs.DecimalNumbers.{run_end, run_stop, run_more}
-use borrow.Author.Rules.{rules}
 use Rattle.parser.proofs.digit_run.Given as goal
 
 abbrev pub invariant-loop-i : goal.invariant-loop-i

@@ -1,7 +1,3 @@
-use Prim.Native.Nat.{◌+◌, ◌-◌, ◌≤◌, min}
-use mathlib.Core.Path.{◌≡◌}
-use lib.ListN.{length, drop}
-use Rattle.parser_spec.specs.Parts.{before_byte}
 use Rattle.parser.proofs.DecimalNumbers.{before_end, before_here, before_more}
 use borrow.Author.Rules.{rules}
 use Rattle.parser.proofs.find.Goals as goal

@@ -1,9 +1,7 @@
-use Prim.Native.Nat.{◌+◌, ◌-◌, ◌≤◌, min}
+use Prim.Native.Nat.{◌+◌, ◌-◌}
 use mathlib.Core.Path.{◌≡◌}
 use lib.ListN.{length, drop}
 use Rattle.parser_spec.specs.Parts.{before_byte}
-use Rattle.parser.proofs.DecimalNumbers.{before_end, before_here, before_more}
-use borrow.Author.Rules.{rules}
 use Rattle.parser.proofs.find.Given as goal
 
 abbrev pub invariant-loop-i : goal.invariant-loop-i

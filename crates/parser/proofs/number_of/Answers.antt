@@ -1,8 +1,4 @@
 use native.Mathlib.Omega.{arith}
-use Prim.Native.Nat.{◌+◌, ◌-◌, ◌≤◌, min}
-use mathlib.Core.Path.{◌≡◌}
-use lib.ListN.{length, drop}
-use Rattle.parser_spec.specs.DecimalNumbers.{decimal, most, number_of}
 use Rattle.parser.proofs.DecimalNumbers.{number_start, number_end, number_more}
 use borrow.Author.Rules.{rules}
 use Rattle.parser.proofs.number_of.Goals as goal
@@ -11,7 +7,7 @@ pub loop-i-init : goal.loop-i-init
 loop-i-init c = (omega arith, number_start _)
 
 pub loop-i-preserved : goal.loop-i-preserved
-loop-i-preserved c =     number_more _ _ _ c.loop-i.invariant.0 c.loop-i.invariant.1 _ c.loop-i-test.true c.push_digit-n.ensures
+loop-i-preserved c = number_more _ _ _ c.loop-i.invariant.0 c.loop-i.invariant.1 _ c.loop-i-test.true c.push_digit-n.ensures
 
 pub returns : goal.returns
 returns c = search (number_end, rules)

@@ -1,10 +1,7 @@
-use native.Mathlib.Omega.{arith}
-use Prim.Native.Nat.{◌+◌, ◌-◌, ◌≤◌, min}
+use Prim.Native.Nat.{◌-◌, ◌≤◌, min}
 use mathlib.Core.Path.{◌≡◌}
 use lib.ListN.{length, drop}
 use Rattle.parser_spec.specs.DecimalNumbers.{decimal, most, number_of}
-use Rattle.parser.proofs.DecimalNumbers.{number_start, number_end, number_more}
-use borrow.Author.Rules.{rules}
 use Rattle.parser.proofs.number_of.Given as goal
 
 abbrev pub invariant-loop-i : goal.invariant-loop-i
