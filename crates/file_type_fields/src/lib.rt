@@ -1,5 +1,6 @@
 // The names of words and status bits in T, C and R.
 #![tactic(auto)]
+
 ghost use Rattle.std.specs.Prelude.{◌≡◌, [], ◌<◌, length, get_or};
 ghost use Rattle.std.proofs.Math.Option.{some};
 ghost use Rattle.file_type.specs.Fields.{first_field};

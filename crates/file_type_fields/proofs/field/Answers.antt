@@ -1,8 +1,5 @@
 use borrow.Author.Rules.{rules}
-use Prim.Native.Nat.{◌-◌}
-use mathlib.Core.Path.{◌≡◌, refl}
-use lib.ListN.{length, drop}
-use Rattle.file_type.specs.Table.{field_names, place}
+use mathlib.Core.Path.{refl}
 use Rattle.file_type.proofs.FieldNames.{below_ten, found, not_found, found_none}
 use Rattle.file_type_fields.proofs.field.Goals as goal
 

@@ -1,9 +1,7 @@
-use borrow.Author.Rules.{rules}
 use Prim.Native.Nat.{◌-◌}
-use mathlib.Core.Path.{◌≡◌, refl}
+use mathlib.Core.Path.{◌≡◌}
 use lib.ListN.{length, drop}
 use Rattle.file_type.specs.Table.{field_names, place}
-use Rattle.file_type.proofs.FieldNames.{below_ten, found, not_found, found_none}
 use Rattle.file_type_fields.proofs.field.Given as goal
 
 abbrev pub invariant-loop-i : goal.invariant-loop-i
