@@ -1,5 +1,2 @@
-pub mod Walking
-pub mod TableLoop
 pub mod SurveySteps
-pub mod Surveying
 pub mod SurveyRight

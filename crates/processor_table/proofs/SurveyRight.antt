@@ -1,5 +1,5 @@
 -- The pass over the records gives what the definition says, which speaks of the list of records alone.
-use Prim.Native.Nat.{ℕ, suc, ◌+◌, ◌%◌, ◌<◌, ◌≤◌}
+use Prim.Native.Nat.{ℕ, suc, ◌+◌, ◌%◌, ◌<◌, ◌≤◌, min}
 use mathlib.Core.Path.{◌≡◌, refl, sym, ap, subst, ◌∙◌}
 use mathlib.Core.List.{List, [], ◌∷◌}
 use mathlib.Core.Option.{Option, none, some}
@@ -9,8 +9,8 @@ use native.Mathlib.Omega.{arith}
 use native.Mathlib.Numerals.{add-one}
 use borrow.Author.Tests.{ltb-true, ltb-false, leb-true, eqb-true, lt-ltb, le-leb, lt-leb, ne_eqb}
 use lib.Dec.{leb, ltb, eqb}
-use lib.ListN.{length, take}
-use lib.Seq.{length-take-le}
+use lib.ListN.{length, get_or, take, drop, drop_of_length-le, length-take}
+use lib.Seq.{drop-cons, get_or-take, length-take-le}
 use Rattle.file_type.specs.Table.{first, of_code, element_size}
 use Rattle.processor_spec.specs.declared.FileRecord.{FileRecord}
 use Rattle.processor_spec.specs.Directory.{last_number}
@@ -219,3 +219,17 @@ survey_right ys n u = by_count (leb n (length ys)) refl
     by_count : (b : Bool) → leb n (length ys) ≡ b → Goal ys n u
     by_count true e = by_first (ltb 0 n) refl e
     by_count false e = rw (e, no_more (ltb 0 n)) (stays_lost u (take n ys) 0 no_record)
+
+-- ---- the pass, record by record
+module _ {X : Type 0} (f : X → FileRecord → X) (ys : List FileRecord) (n i : ℕ) (d : X) where
+  -- to take the record at i is to go on from the next
+  pub sees : i < min n (length ys) → folded f (drop (i + 1) (take n ys)) (f d (get_or ys i no_record)) ≡ folded f (drop i (take n ys)) d
+  unfolding folded
+  sees l =
+      ap (λ (r : FileRecord). folded f (drop (i + 1) (take n ys)) (f d r)) (sym (get_or-take n ys i no_record (omega arith)))
+      ∙ ap (λ (k : ℕ). folded f (drop k (take n ys)) (f d (get_or (take n ys) i no_record))) (add-one i)
+      ∙ sym (ap (λ (t : List FileRecord). folded f t d) (drop-cons (take n ys) i no_record (subst (λ (k : ℕ). i < k) (sym (length-take n ys)) l)))
+
+  pub at_end_lem : min n (length ys) ≤ i → folded f (drop i (take n ys)) d ≡ d
+  unfolding folded
+  at_end_lem g = let h : length (take n ys) ≤ i = subst (λ (k : ℕ). k ≤ i) (sym (length-take n ys)) g in rw (drop_of_length-le (take n ys) h)

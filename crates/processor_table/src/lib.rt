@@ -1,5 +1,6 @@
 // The lent list of file records: one pass tells whether it is sound, and the record that is sought.
 #![tactic(auto)]
+
 ghost use Rattle.std.specs.Prelude.{◌≡◌};
 ghost use Rattle.processor_table.specs.Survey.{lost_of, survey_of};
 ghost use Rattle.processor_table.specs.SurveySteps.{whole_of, follows_of, first_number, begun_of, passed_of, concluded_of};
