@@ -2,7 +2,7 @@
 -- don't concern the file table, as plain data.
 use Rattle.std.specs.Prelude.{ℕ, true, false, ◌&&◌, cond, List, [], ◌∷◌, eqb, take}
 use Rattle.std.proofs.Math.Option.{Option, none, some}
-use Rattle.parser_spec.specs.Parts.{Part, then, ◌>>=◌, give}
+use Rattle.parser_spec.specs.Parts.{Part, ◌>>=◌, give}
 use Rattle.directory_sys0.specs.declared.Sys0Info.{Sys0Info}
 use Rattle.directory_sys0.specs.Families.{sys0}
 use Rattle.processor_spec.specs.declared.Slc.{Slc}

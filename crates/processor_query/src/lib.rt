@@ -1,5 +1,6 @@
 // What a command says, read once, by its bytes and the type text alone.
 #![tactic(auto)]
+
 mod functions;
 
 ghost use Rattle.std.specs.Prelude.{◌≡◌, ◌≤◌, length, take, drop};
