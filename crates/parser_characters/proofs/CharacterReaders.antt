@@ -14,7 +14,7 @@ use Rattle.base.proofs.Parts.{drop_next}
 use Rattle.parser_spec.specs.Parts.{then, here, at_end, one}
 use Rattle.parser_spec.specs.Characters.{Range, ◌to◌, within, table, byte_in, bytes_in, point_in, character_in, character, well_formed, capital, utf8, letter_of}
 use Rattle.parser_spec.proofs.Held.{Holds, nothing, that, held_of}
-use Rattle.parser_spec.proofs.Characters.{byte_in_leaves, character_leaves, lead_read, row_at, in_row, no_row, no_more, far, small_character, other_capital, small_capital, formed_none, formed_next}
+use Rattle.parser_spec.proofs.Characters.{byte_in_leaves, character_leaves, lead_read, row_at, in_row, no_row_lem, no_more, far, small_character, other_capital, small_capital, formed_none, formed_next}
 use Rattle.parser_spec.proofs.Written.{step, stop}
 use Rattle.parser.specs.CursorAnswers.{placed, eaten_of, read_word_of}
 use Rattle.parser.specs.declared.Cur.{Cur}
@@ -106,7 +106,7 @@ module _ (s : List ℕ) (i : ℕ) where
     small b e l = let r = small_reads h (omega arith) in rw e (a_character s i _ (get_or s i 0) (record { i = i + 1 }) r.is r.on)
 
     pub between : 0x80 ≤ get_or s i 0 → get_or s i 0 < 0xC2 → read.No ≡ character_of (placed i s (character (drop i s)))
-    between l u = no_character s i _ (rw (drop_next s i h) (no_row _ _ l (omega arith)))
+    between l u = no_character s i _ (rw (drop_next s i h) (no_row_lem _ _ l (omega arith)))
 
     pub behind : 0xF3 < get_or s i 0 → (get_or s i 0 ≡ 0xF4 → ⊥) → read.No ≡ character_of (placed i s (character (drop i s)))
     behind l n = no_character s i _ (rw (drop_next s i h) (no_more _ _ (omega arith)))

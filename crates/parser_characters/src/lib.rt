@@ -1,5 +1,6 @@
 // Characters of a text in UTF-8, read from a cursor on, and file letters.
 #![tactic(auto)]
+
 ghost use Rattle.std.specs.Prelude.{◌≡◌, [], ◌∷◌, ◌≤◌, drop};
 ghost use Rattle.parser_spec.specs.Characters.{◌to◌, byte_in, point_in, character as characters_character, well_formed, capital as characters_capital, utf8, letter_of};
 ghost use Rattle.parser.specs.CursorAnswers.{read_at, eaten_of, read_word_of};

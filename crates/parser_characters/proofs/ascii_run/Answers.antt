@@ -1,7 +1,4 @@
-use Prim.Native.Nat.{◌-◌}
-use mathlib.Core.Path.{◌≡◌, refl}
-use lib.ListN.{length, drop}
-use Rattle.parser_spec.specs.Characters.{well_formed}
+use mathlib.Core.Path.{refl}
 use Rattle.parser_characters.proofs.CharacterReaders.{formed_small}
 use borrow.Author.Rules.{rules}
 use Rattle.parser_characters.proofs.ascii_run.Goals as goal

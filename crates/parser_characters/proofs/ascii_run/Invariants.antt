@@ -1,9 +1,7 @@
 use Prim.Native.Nat.{◌-◌}
-use mathlib.Core.Path.{◌≡◌, refl}
+use mathlib.Core.Path.{◌≡◌}
 use lib.ListN.{length, drop}
 use Rattle.parser_spec.specs.Characters.{well_formed}
-use Rattle.parser_characters.proofs.CharacterReaders.{formed_small}
-use borrow.Author.Rules.{rules}
 use Rattle.parser_characters.proofs.ascii_run.Given as goal
 
 abbrev pub invariant-loop-i : goal.invariant-loop-i

@@ -1,7 +1,3 @@
-use Prim.Native.Nat.{◌-◌}
-use mathlib.Core.Path.{◌≡◌}
-use lib.ListN.{length, drop}
-use Rattle.parser_spec.specs.Characters.{well_formed}
 use Rattle.parser_characters.proofs.CharacterReaders.{formed_end, formed_stop, formed_more, formed_less}
 use borrow.Author.Rules.{rules}
 use Rattle.parser_characters.proofs.is_well_formed.Goals as goal
