@@ -1,5 +1,6 @@
 // The frame of a command and of its reply.
 #![tactic(auto)]
+
 ghost use Rattle.std.specs.Prelude.{◌≡◌, [], ◌+◌, ◌≤◌, ◌<◌, length, get_or, take};
 ghost use Rattle.base.specs.Put.{Puts, Wrote};
 ghost use Rattle.element_text.specs.Text.{fitted};
