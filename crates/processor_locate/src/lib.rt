@@ -1,5 +1,6 @@
 // Where an access begins in the data memory, and parts of lent memories.
 #![tactic(auto)]
+
 ghost use Rattle.std.specs.Prelude.{◌≡◌, take, drop};
 ghost use Rattle.processor_locate.specs.Locate.{locate_by, place_of};
 
