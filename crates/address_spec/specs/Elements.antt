@@ -1,5 +1,5 @@
 -- The elements that an address names, and which of them can be spelled.
-use Rattle.std.specs.Prelude.{ℕ, Bool, true, false, ◌&&◌, leb, eqb}
+use Rattle.std.specs.Prelude.{ℕ, Bool, false, ◌&&◌, leb, eqb}
 use Rattle.file_type.specs.declared.FileType.{FileType}
 use Rattle.file_type.specs.declared.FileType.TheVariants.{O, I, S, B, T, C, R, N, F, ST, A, L, MG, PD, PLS}
 use Rattle.address_spec.specs.declared.Address.{Address}

@@ -1,5 +1,6 @@
 // The address spelling: the definitions of document 01 (specs/), their laws and rows (proofs/), and the plain data that their readers answer with.
 #![tactic(auto)]
+
 ghost use Rattle.std.specs.Prelude.{◌≡◌};
 ghost use Rattle.address_spec.specs.Spelling.{or_zero};
 
