@@ -1,5 +1,6 @@
 // The phrases that several forms of an address share, read from a cursor on.
 #![tactic(auto)]
+
 ghost use Rattle.std.specs.Prelude.{◌≡◌, [], ◌∷◌, drop};
 ghost use Rattle.std.proofs.Math.Option.{some};
 ghost use Rattle.file_type.specs.declared.FileType.TheVariants.{C, T, L, F, B, N};
