@@ -1,6 +1,6 @@
 -- The bytes of a quoted text, and texts compared.
 use Rattle.std.specs.Prelude.{ℕ, ◌-◌, Bool, true, false, ◌&&◌, cond, List, [] as nil, ◌∷◌ as cons, eqb, leb}
-use Prim.Native.Char.{Char, code}
+use Prim.Native.Char.{code}
 use Prim.Native.String.{String, [], ◌∷◌}
 
 abbrev pub bytes : String → List ℕ

@@ -1,6 +1,7 @@
 // What all crates share: bytes and numbers laid over lent memory, and numbers read from it.
 // A writer that finds no room changes nothing and answers the place that it was given.
 #![tactic(auto)]
+
 ghost use Rattle.std.specs.Prelude.{◌≡◌, ◌+◌, ◌≤◌, ◌<◌, min, length, take, drop};
 ghost use Rattle.base.specs.Chars.{letter as chars_letter, spelled};
 ghost use Rattle.base.specs.Masks.{mix, bit_mask};

@@ -14,7 +14,6 @@ use Rattle.base.specs.Put.{Puts}
 use Rattle.base.proofs.Parts.{drop_next}
 use Rattle.decimal.specs.Decimals.{decimal_before, decimal, is_digit, number_from, number_of, unsigned_of}
 use Rattle.decimal.specs.declared.Decimal.{Decimal}
-use Rattle.decimal.specs.declared.Decimal.TheVariants as Decimal
 
 -- ---- the digits of a number, from the last
 -- more than enough digits change nothing

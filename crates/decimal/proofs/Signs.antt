@@ -20,8 +20,6 @@ use Rattle.base.proofs.Put.{put_front, wrote_length, puts_wrote}
 use Rattle.decimal.specs.Decimals.{decimal, signed_text, number_of, unsigned_of, plus, minus, signed_of}
 use Rattle.decimal.specs.declared.Decimal.{Decimal}
 use Rattle.decimal.specs.declared.Whole.{Whole}
-use Rattle.decimal.specs.declared.Decimal.TheVariants as Decimal
-use Rattle.decimal.specs.declared.Whole.TheVariants as Whole
 use Rattle.decimal.proofs.Decimals.{decimal_length, is_read, no_read, not_none}
 
 -- -1 - z of a number below 0 and of one that is not

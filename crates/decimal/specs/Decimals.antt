@@ -3,8 +3,6 @@ use Rattle.std.specs.Prelude.{ℕ, zero, suc, ◌+◌, ◌*◌, ◌-◌, ◌/◌
 use Rattle.std.proofs.Math.Option.{Option, none, some}
 use Rattle.decimal.specs.declared.Decimal.{Decimal}
 use Rattle.decimal.specs.declared.Whole.{Whole}
-use Rattle.decimal.specs.declared.Decimal.TheVariants as Decimal
-use Rattle.decimal.specs.declared.Whole.TheVariants as Whole
 
 -- the digits of n in front of a text; k is at least as many as the digits behind the first
 unfoldable pub decimal_before : ℕ → ℕ → List ℕ → List ℕ

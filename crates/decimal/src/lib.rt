@@ -1,5 +1,6 @@
 // Numbers as decimal text, written and read. No function has a `requires`.
 #![tactic(auto)]
+
 ghost use Rattle.std.specs.Prelude.{◌≡◌, ◌+◌, ◌*◌, ◌<◌, ◌≤◌, length, [], ◌∷◌, nat_abs};
 ghost use Rattle.base.specs.Put.{Puts};
 ghost use Rattle.std.proofs.Math.Option.{some};

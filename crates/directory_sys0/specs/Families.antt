@@ -1,5 +1,5 @@
 -- The directory's layout by the processor's family (document 01, "What the processor does" and module 5).
-use Rattle.std.specs.Prelude.{ℕ, Bool, false, cond, List, [], ◌∷◌, take}
+use Rattle.std.specs.Prelude.{ℕ, false, cond, List, [], ◌∷◌, take}
 use Prim.Native.String.{String}
 use Rattle.base.specs.Chars.{bytes, spelled}
 use Rattle.directory_sys0.specs.declared.Sys0Info.{Sys0Info}

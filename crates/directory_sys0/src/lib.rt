@@ -1,5 +1,6 @@
 // Where a processor keeps its file directory, by the family that its type text names.
 #![tactic(auto)]
+
 ghost use Rattle.std.specs.Prelude.{◌≡◌, take};
 ghost use Rattle.directory_sys0.specs.Families.{layout, families, family_in, sys0};
 

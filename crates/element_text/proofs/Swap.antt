@@ -1,10 +1,9 @@
 -- Laws of swapped pairs.
 use Prim.Native.Nat.{ℕ, suc, ◌+◌, ◌-◌, ◌≤◌, ◌<◌}
 use mathlib.Core.Path.{◌≡◌, refl, ap, sym, ◌∙◌}
-use mathlib.Core.List.{List, [], ◌∷◌, ◌++◌}
-use native.Mathlib.Numerals.{add-one}
+use mathlib.Core.List.{List, [], ◌∷◌}
 use native.Mathlib.Omega.{arith}
-use lib.ListN.{length, take, drop, get_or, set, length-set, length-drop}
+use lib.ListN.{length, drop, get_or, set, length-set, length-drop}
 use lib.Seq.{drop-set-lt}
 use Rattle.base.specs.Put.{put}
 use Rattle.base.proofs.Parts.{drop_next}

@@ -1,5 +1,5 @@
 -- Text as the processor stores it (document 01, "Request bytes" and module 2).
-use Rattle.std.specs.Prelude.{ℕ, ◌-◌, ◌%◌, Bool, true, false, cond, List, [], ◌∷◌, ◌++◌, ltb, length, take, replicate}
+use Rattle.std.specs.Prelude.{ℕ, ◌-◌, ◌%◌, cond, List, [], ◌∷◌, ◌++◌, ltb, length, take, replicate}
 use Rattle.base.specs.Numbers.{low_first}
 use Rattle.base.specs.Outcome.{Outcome, refused, lays, left}
 use Rattle.element_text.specs.declared.Swapped.{Swapped}

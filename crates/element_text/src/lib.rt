@@ -1,5 +1,6 @@
 // Byte pairs swapped, and the text of A and ST elements: an SLC stores two characters to a word, the first in the high byte.
 #![tactic(auto)]
+
 ghost use Rattle.std.specs.Prelude.{◌≡◌, get_or};
 ghost use Rattle.element_text.specs.Text.{swap_pairs, padded_swap, ascii_text, string_text, written_of, out_of};
 

@@ -1,19 +1,19 @@
 -- Laws of whole numbers in two's complement, over the width.
-use Prim.Native.Nat.{ℕ, zero, suc, ◌+◌, ◌-◌, ◌*◌, ◌^◌, ◌≤◌, ◌<◌}
-use mathlib.Core.Path.{◌≡◌, refl, ap, sym, subst, ◌∙◌}
-use mathlib.Core.Bool.{Bool, true, false, not, cond}
+use Prim.Native.Nat.{ℕ, zero, suc, ◌-◌, ◌*◌, ◌^◌, ◌≤◌, ◌<◌}
+use mathlib.Core.Path.{◌≡◌, ap, sym, subst, ◌∙◌}
+use mathlib.Core.Bool.{Bool, true, false, cond}
 use native.Mathlib.Nat.{zero-add}
 use native.Mathlib.Omega.{arith}
 use borrow.Author.Tests.{lt-ltb, le-ltb, le-leb, lt-leb, ltb-true}
 use lib.Dec.{T, leb, ltb, eqb}
-use lib.IntN.{ℤ, pos, negsuc, neg_ℤ, nat_abs, ◌+ℤ◌, ◌-ℤ◌, +ℤ_idr}
-use lib.Signed.{mag, lt_z, non_neg}
-use mir.Syntax.{Width, w16, w32, w64}
+use lib.IntN.{ℤ, pos, negsuc, nat_abs, ◌-ℤ◌, +ℤ_idr}
+use lib.Signed.{lt_z, non_neg}
+use mir.Syntax.{Width, w64}
 use mir.Val.{Fits, SFits, hbits, to_z, of_z}
 use mir.ValLaws.{to_z_pos, to_z-of_z}
 use Rattle.element_whole.specs.declared.Bits.TheVariants as bits
 use Rattle.element_whole.specs.declared.Parted.{Parted}
-use Rattle.element_whole.specs.Whole.{in_range, twos, signed, bits_of, is_zero, joined}
+use Rattle.element_whole.specs.Whole.{signed, bits_of, is_zero, joined}
 
 -- −1 less a number: n and −(n + 1) change places
 minus_pos : (m : ℕ) → negsuc 0 -ℤ pos m ≡ negsuc m

@@ -1,5 +1,5 @@
 -- Whole numbers in words and longs, over the width: `ones` is the largest number of the width (document 01, module 2).
-use Rattle.std.specs.Prelude.{ℕ, ◌-◌, ◌*◌, Bool, true, false, cond, leb, ltb, eqb, ℤ, pos, negsuc}
+use Rattle.std.specs.Prelude.{ℕ, ◌-◌, ◌*◌, Bool, false, cond, leb, ltb, eqb, ℤ, pos, negsuc}
 use Rattle.element_whole.specs.declared.Bits.{Bits}
 use Rattle.element_whole.specs.declared.Bits.TheVariants as bits
 use Rattle.element_whole.specs.declared.Parted.{Parted}

@@ -1,5 +1,6 @@
 // Whole numbers and their bits in two's complement.
 #![tactic(auto)]
+
 ghost use Rattle.std.specs.Prelude.{◌≡◌, ◌-◌};
 ghost use Rattle.element_whole.specs.Whole.{joined, bits_of, is_zero as whole_is_zero, signed};
 

@@ -1,5 +1,6 @@
 // Data file types: names, PCCC type codes, element sizes.
 #![tactic(auto)]
+
 ghost use Rattle.std.specs.Prelude.{◌≡◌, ◌≤◌, take};
 ghost use Rattle.base.specs.Chars.{spelled};
 ghost use Rattle.file_type.specs.Fields.{place_of, letters_in};

@@ -1,5 +1,6 @@
 // The texts of the questions, by their numbers.
 #![tactic(auto)]
+
 ghost use Rattle.reply_status_text.specs.Texts.{Tells};
 ghost use Rattle.question_text.specs.Questions.{question_of};
 

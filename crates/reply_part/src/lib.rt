@@ -1,5 +1,6 @@
 // The part of a reply from its status on: the status, two bytes of the sequence number, and what follows them.
 #![tactic(auto)]
+
 ghost use Rattle.std.specs.Prelude.{◌≡◌, ◌+◌, drop};
 ghost use Rattle.reply_part.specs.Part.{of_raw, of_reply, data_of};
 

@@ -1,5 +1,6 @@
 // The texts of the status codes of a reply, and how a text is said.
 #![tactic(auto)]
+
 ghost use Rattle.std.proofs.Math.Option.{some};
 ghost use Rattle.std.specs.Prelude.{take};
 ghost use Rattle.reply_status_text.specs.Texts.{text_of, Tells};

@@ -1,7 +1,7 @@
 -- The parts of a request, one after the other.
 use Prim.Native.Nat.{ℕ, ◌+◌, ◌-◌, ◌/◌, ◌%◌, ◌≤◌, ◌<◌}
 use mathlib.Core.Path.{◌≡◌, refl, ap, ap₂, sym, ◌∙◌, subst}
-use mathlib.Core.Bool.{Bool, true, false, cond}
+use mathlib.Core.Bool.{Bool, true, false}
 use mathlib.Core.List.{List, [], ◌∷◌, ◌++◌}
 use native.Mathlib.Nat.{zero-add, mod-eq_of_lt}
 use native.Mathlib.Omega.{arith}
@@ -9,10 +9,10 @@ use borrow.Author.Tests.{lt-ltb, le-ltb, ltb-true, ltb-false}
 use lib.Dec.{ltb}
 use lib.ListN.{length, get_or, length-append}
 use Rattle.base.specs.Numbers.{low_first}
-use Rattle.base.specs.Put.{Wrote, Puts}
+use Rattle.base.specs.Put.{Puts}
 use Rattle.base.proofs.Numbers.{low_length}
 use Rattle.base.proofs.Parts.{two_of, four_of}
-use Rattle.base.proofs.Put.{Lays, lays, then, and_then, wrote_length, puts_wrote, puts_room, puts_full}
+use Rattle.base.proofs.Put.{Lays, lays, then, puts_room, puts_full}
 use Rattle.request_frame.specs.RequestFrame.{identity, command_head, address_field, two_addresses, three_addresses, typed, typed_length}
 use Rattle.request_frame.specs.declared.Target.{Target}
 use Rattle.request_frame.specs.declared.Requestor.{Requestor}

@@ -1,5 +1,6 @@
 // The frame of a request: who asks, the command, the sequence number; and the manual's typed logical layouts.
 #![tactic(auto)]
+
 pub mod put;
 
 ghost use Rattle.std.specs.Prelude.{◌≡◌, length};

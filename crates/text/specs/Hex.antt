@@ -5,8 +5,6 @@ use Rattle.text.specs.Line.{same}
 use Rattle.text.specs.declared.hex.Long.{Long}
 use Rattle.text.specs.declared.hex.Bytes.{Bytes}
 use Rattle.text.specs.declared.hex.Byte.{Byte}
-use Rattle.text.specs.declared.hex.Long.TheVariants as Long
-use Rattle.text.specs.declared.hex.Byte.TheVariants as Byte
 
 -- a capital hexadecimal digit
 unfoldable pub digit : ℕ → ℕ

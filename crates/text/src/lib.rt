@@ -1,5 +1,6 @@
 // What the programs print and read: hexadecimal text, and the fields of a line. No function has a `requires`.
 #![tactic(auto)]
+
 mod hex;
 mod line;
 

@@ -1,12 +1,7 @@
 use Prim.Native.Nat.{◌+◌, ◌-◌, ◌≤◌}
-use mathlib.Core.Path.{◌≡◌, refl}
-use native.Mathlib.Nat.{add-zero}
-use native.Mathlib.Omega.{arith}
-use lib.ListN.{length, drop, length-set, drop_of_length-le}
-use borrow.Author.Rules.{rules}
+use mathlib.Core.Path.{◌≡◌}
+use lib.ListN.{length, drop}
 use Rattle.base.specs.Put.{put}
-use Rattle.base.proofs.Parts.{drop_next}
-use Rattle.base.proofs.Put.{lay_turn, lay_done}
 use Rattle.base.proofs.lay_all.Given as goal
 
 abbrev pub invariant-loop-i : goal.invariant-loop-i

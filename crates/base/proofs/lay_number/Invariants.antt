@@ -1,13 +1,8 @@
 use Prim.Native.Nat.{◌+◌, ◌-◌, ◌≤◌}
-use mathlib.Core.Path.{◌≡◌, refl, sym}
-use native.Mathlib.Nat.{add-zero, sub-zero}
-use native.Mathlib.Omega.{arith}
-use lib.ListN.{length, length-set}
-use borrow.Author.Rules.{rules}
+use mathlib.Core.Path.{◌≡◌}
+use lib.ListN.{length}
 use Rattle.base.specs.Numbers.{low_first}
 use Rattle.base.specs.Put.{put}
-use Rattle.base.proofs.Numbers.{low_length, low_next, low_none}
-use Rattle.base.proofs.Put.{lay_turn, lay_done}
 use Rattle.base.proofs.lay_number.Given as goal
 
 abbrev pub invariant-loop-i : goal.invariant-loop-i

@@ -1,8 +1,4 @@
-use Prim.Native.Nat.{◌-◌}
-use mathlib.Core.Path.{◌≡◌, refl, sym, ◌∙◌}
-use lib.ListN.{length, drop}
-use native.Mathlib.Omega.{arith}
-use Rattle.base.specs.Chars.{spelled}
+use mathlib.Core.Path.{refl}
 use Rattle.base.proofs.Chars.{spelled_short, spelled_end, spelled_off, spelled_on}
 use borrow.Author.Rules.{rules}
 use Rattle.base.proofs.spells.Goals as goal
@@ -17,7 +13,7 @@ pub returns-then-letter-name : goal.returns-then-letter-name
 returns-then-letter-name c = search (spelled_off, rules)
 
 pub loop-i-preserved : goal.loop-i-preserved
-loop-i-preserved c =     spelled_on _ _ _ _ c.if-s-name.false c.loop-i.invariant _ c.loop-i-test.true c.letter.ensures c.if-letter-name.false
+loop-i-preserved c = spelled_on _ _ _ _ c.if-s-name.false c.loop-i.invariant _ c.loop-i-test.true c.letter.ensures c.if-letter-name.false
 
 pub returns : goal.returns
 returns c = search (spelled_end, rules)

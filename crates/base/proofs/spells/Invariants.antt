@@ -1,10 +1,7 @@
 use Prim.Native.Nat.{◌-◌}
-use mathlib.Core.Path.{◌≡◌, refl, sym, ◌∙◌}
+use mathlib.Core.Path.{◌≡◌}
 use lib.ListN.{length, drop}
-use native.Mathlib.Omega.{arith}
 use Rattle.base.specs.Chars.{spelled}
-use Rattle.base.proofs.Chars.{spelled_short, spelled_end, spelled_off, spelled_on}
-use borrow.Author.Rules.{rules}
 use Rattle.base.proofs.spells.Given as goal
 
 abbrev pub invariant-loop-i : goal.invariant-loop-i

@@ -1,9 +1,7 @@
 use Prim.Native.Nat.{◌-◌, ◌≤◌, ◌<◌}
 use mathlib.Core.Path.{◌≡◌}
 use lib.ListN.{length, drop}
-use borrow.Author.Rules.{rules}
 use Rattle.decimal.specs.Decimals.{unsigned_of, number_from, number_of}
-use Rattle.decimal.proofs.Decimals.{number_empty, number_start, number_stop, number_less, number_turn, number_done}
 use Rattle.decimal.proofs.number.Given as goal
 
 abbrev pub invariant-loop-i : goal.invariant-loop-i

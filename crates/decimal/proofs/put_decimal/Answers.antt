@@ -1,9 +1,6 @@
-use Prim.Native.Nat.{◌^◌, ◌≤◌, ◌<◌}
-use mathlib.Core.Path.{◌≡◌}
 use native.Mathlib.Omega.{arith}
-use lib.ListN.{length-set, length, drop}
+use lib.ListN.{length-set}
 use borrow.Author.Rules.{rules}
-use Rattle.decimal.specs.Decimals.{decimal_before, decimal}
 use Rattle.decimal.proofs.Decimals.{decimal_places, decimal_fewer, decimal_turn, decimal_start, decimal_puts}
 use Rattle.decimal.proofs.put_decimal.Goals as goal
 

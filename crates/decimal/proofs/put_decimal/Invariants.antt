@@ -1,10 +1,7 @@
 use Prim.Native.Nat.{◌^◌, ◌≤◌, ◌<◌}
 use mathlib.Core.Path.{◌≡◌}
-use native.Mathlib.Omega.{arith}
-use lib.ListN.{length-set, length, drop}
-use borrow.Author.Rules.{rules}
+use lib.ListN.{length, drop}
 use Rattle.decimal.specs.Decimals.{decimal_before, decimal}
-use Rattle.decimal.proofs.Decimals.{decimal_places, decimal_fewer, decimal_turn, decimal_start, decimal_puts}
 use Rattle.decimal.proofs.put_decimal.Given as goal
 
 abbrev pub invariant-loop-rest : goal.invariant-loop-rest

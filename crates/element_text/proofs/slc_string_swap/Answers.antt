@@ -9,7 +9,7 @@ pub returns-then-out-m : goal.returns-then-out-m
 returns-then-out-m c = search (no_room, rules)
 
 pub slice_bounds-swap_pairs-end-2 : goal.slice_bounds-swap_pairs-end-2
-slice_bounds-swap_pairs-end-2 c =     sym (length-take-le _ _ (omega (arith, kept_length _ _ c.if-out-m.false c.put_all.ensures c.put_number.ensures)))
+slice_bounds-swap_pairs-end-2 c = sym (length-take-le _ _ (omega (arith, kept_length _ _ c.if-out-m.false c.put_all.ensures c.put_number.ensures)))
 
 pub returns : goal.returns
-returns c =     swap_done _ _ c.if-out-m.false c.put_all.ensures c.put_number.ensures _ c.swap_pairs.ensures
+returns c = swap_done _ _ c.if-out-m.false c.put_all.ensures c.put_number.ensures _ c.swap_pairs.ensures

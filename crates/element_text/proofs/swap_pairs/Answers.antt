@@ -1,9 +1,6 @@
-use Prim.Native.Nat.{◌-◌, ◌≤◌}
-use mathlib.Core.Path.{◌≡◌, refl}
+use mathlib.Core.Path.{refl}
 use native.Mathlib.Omega.{arith}
-use lib.ListN.{length, drop, length-set}
-use Rattle.base.specs.Put.{put}
-use Rattle.element_text.specs.Text.{swap_pairs}
+use lib.ListN.{length-set}
 use Rattle.element_text.proofs.Swap.{swap_start, swap_turn, swap_end}
 use borrow.Author.Rules.{rules}
 use Rattle.element_text.proofs.swap_pairs.Goals as goal

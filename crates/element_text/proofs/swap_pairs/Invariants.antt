@@ -1,11 +1,8 @@
 use Prim.Native.Nat.{◌-◌, ◌≤◌}
-use mathlib.Core.Path.{◌≡◌, refl}
-use native.Mathlib.Omega.{arith}
-use lib.ListN.{length, drop, length-set}
+use mathlib.Core.Path.{◌≡◌}
+use lib.ListN.{length, drop}
 use Rattle.base.specs.Put.{put}
 use Rattle.element_text.specs.Text.{swap_pairs}
-use Rattle.element_text.proofs.Swap.{swap_start, swap_turn, swap_end}
-use borrow.Author.Rules.{rules}
 use Rattle.element_text.proofs.swap_pairs.Given as goal
 
 abbrev pub invariant-loop-bytes : goal.invariant-loop-bytes

@@ -2,7 +2,6 @@ use mathlib.Core.Path.{refl}
 use native.Mathlib.Omega.{arith}
 use mir.Syntax.{w32}
 use Rattle.element_whole.proofs.Signed.{signed_low, signed_fits, signed_high}
-use borrow.Author.Rules.{rules}
 use Rattle.element_whole.proofs.signed_long.Goals as goal
 
 pub returns-then-l-lt2147483648 : goal.returns-then-l-lt2147483648

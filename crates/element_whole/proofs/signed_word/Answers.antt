@@ -2,7 +2,6 @@ use mathlib.Core.Path.{refl}
 use native.Mathlib.Omega.{arith}
 use mir.Syntax.{w16}
 use Rattle.element_whole.proofs.Signed.{signed_low, signed_fits, signed_high}
-use borrow.Author.Rules.{rules}
 use Rattle.element_whole.proofs.signed_word.Goals as goal
 
 pub returns-then-w-lt32768 : goal.returns-then-w-lt32768

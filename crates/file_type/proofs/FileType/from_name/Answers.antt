@@ -1,9 +1,5 @@
 use borrow.Author.Rules.{rules}
-use Prim.Native.Nat.{◌-◌, ◌≤◌}
-use mathlib.Core.Path.{◌≡◌, refl}
-use lib.ListN.{drop}
-use Rattle.file_type.specs.Table.{all, first, of_name}
-use Rattle.file_type.proofs.Names.{spelled_by, is_known, not_known, none_known, any_known}
+use Rattle.file_type.proofs.Names.{is_known, not_known, none_known, any_known}
 use Rattle.file_type.proofs.FileType.from_name.Goals as goal
 
 pub loop-i-init : goal.loop-i-init

@@ -1,9 +1,8 @@
-use borrow.Author.Rules.{rules}
 use Prim.Native.Nat.{◌-◌, ◌≤◌}
-use mathlib.Core.Path.{◌≡◌, refl}
+use mathlib.Core.Path.{◌≡◌}
 use lib.ListN.{drop}
 use Rattle.file_type.specs.Table.{all, first, of_name}
-use Rattle.file_type.proofs.Names.{spelled_by, is_known, not_known, none_known, any_known}
+use Rattle.file_type.proofs.Names.{spelled_by}
 use Rattle.file_type.proofs.FileType.from_name.Given as goal
 
 abbrev pub invariant-loop-i : goal.invariant-loop-i

@@ -1,8 +1,4 @@
-use Prim.Native.Nat.{◌-◌, ◌≤◌}
-use mathlib.Core.Path.{◌≡◌}
-use lib.ListN.{length, drop}
 use borrow.Author.Rules.{rules}
-use Rattle.text.specs.Hex.{digits}
 use Rattle.text.proofs.Pairs.{digits_bad, digits_turn, digits_end}
 use Rattle.text.proofs.hex.all_digits.Goals as goal
 

@@ -1,9 +1,7 @@
 use Prim.Native.Nat.{◌-◌, ◌≤◌}
 use mathlib.Core.Path.{◌≡◌}
 use lib.ListN.{length, drop}
-use borrow.Author.Rules.{rules}
 use Rattle.text.specs.Hex.{digits}
-use Rattle.text.proofs.Pairs.{digits_bad, digits_turn, digits_end}
 use Rattle.text.proofs.hex.all_digits.Given as goal
 
 abbrev pub invariant-loop-i : goal.invariant-loop-i

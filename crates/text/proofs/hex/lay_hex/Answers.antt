@@ -1,10 +1,6 @@
-use Prim.Native.Nat.{◌+◌, ◌-◌, ◌*◌, ◌≤◌}
-use mathlib.Core.Path.{◌≡◌}
 use native.Mathlib.Omega.{arith}
-use lib.ListN.{length-set, length, drop}
+use lib.ListN.{length-set}
 use borrow.Author.Rules.{rules}
-use Rattle.base.specs.Put.{put}
-use Rattle.text.specs.Hex.{hex}
 use Rattle.text.proofs.Pairs.{two_kept, hex_turn, hex_done}
 use Rattle.text.proofs.hex.lay_hex.Goals as goal
 

@@ -1,11 +1,8 @@
 use Prim.Native.Nat.{◌+◌, ◌-◌, ◌*◌, ◌≤◌}
 use mathlib.Core.Path.{◌≡◌}
-use native.Mathlib.Omega.{arith}
-use lib.ListN.{length-set, length, drop}
-use borrow.Author.Rules.{rules}
+use lib.ListN.{length, drop}
 use Rattle.base.specs.Put.{put}
 use Rattle.text.specs.Hex.{hex}
-use Rattle.text.proofs.Pairs.{two_kept, hex_turn, hex_done}
 use Rattle.text.proofs.hex.lay_hex.Given as goal
 
 abbrev pub invariant-loop-i : goal.invariant-loop-i

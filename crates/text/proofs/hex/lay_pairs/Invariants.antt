@@ -2,10 +2,8 @@ use Prim.Native.Nat.{◌-◌, ◌*◌, ◌≤◌}
 use mathlib.Core.Bool.{true}
 use mathlib.Core.Path.{◌≡◌}
 use lib.ListN.{length, drop}
-use borrow.Author.Rules.{rules}
 use Rattle.base.specs.Put.{put}
 use Rattle.text.specs.Hex.{digits, pairs}
-use Rattle.text.proofs.Pairs.{one_kept, digit_there, digit_here, digits_two, pairs_turn, pairs_done}
 use Rattle.text.proofs.hex.lay_pairs.Given as goal
 
 abbrev pub invariant-loop-i : goal.invariant-loop-i

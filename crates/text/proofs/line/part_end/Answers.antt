@@ -1,8 +1,4 @@
-use Prim.Native.Nat.{◌+◌, ◌-◌, ◌≤◌}
-use mathlib.Core.Path.{◌≡◌}
-use lib.ListN.{length, drop}
 use borrow.Author.Rules.{rules}
-use Rattle.text.specs.Line.{part_at}
 use Rattle.text.proofs.Splits.{end_stop, end_turn, end_none}
 use Rattle.text.proofs.line.part_end.Goals as goal
 

@@ -1,9 +1,7 @@
 use Prim.Native.Nat.{◌+◌, ◌-◌, ◌≤◌}
 use mathlib.Core.Path.{◌≡◌}
 use lib.ListN.{length, drop}
-use borrow.Author.Rules.{rules}
 use Rattle.text.specs.Line.{part_at}
-use Rattle.text.proofs.Splits.{end_stop, end_turn, end_none}
 use Rattle.text.proofs.line.part_end.Given as goal
 
 abbrev pub invariant-loop-i : goal.invariant-loop-i

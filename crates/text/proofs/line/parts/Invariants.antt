@@ -1,9 +1,7 @@
 use Prim.Native.Nat.{◌+◌, ◌-◌, ◌≤◌}
 use mathlib.Core.Path.{◌≡◌}
 use lib.ListN.{length, drop}
-use borrow.Author.Rules.{rules}
 use Rattle.text.specs.Line.{cut}
-use Rattle.text.proofs.Splits.{count_turn, count_done}
 use Rattle.text.proofs.line.parts.Given as goal
 
 abbrev pub invariant-loop-i : goal.invariant-loop-i
