@@ -1,5 +1,6 @@
 // Is a processor's state sound (question 16)? The file records as they were surveyed, the data memory, the type text and the datalog.
 #![tactic(auto)]
+
 ghost use Rattle.std.specs.Prelude.{◌≡◌, ◌&&◌, max, leb, take, drop};
 ghost use Rattle.processor_spec.specs.State.{good_text, good_log};
 ghost use Rattle.processor_spec.specs.Plain.{entries, holds};

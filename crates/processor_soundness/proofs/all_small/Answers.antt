@@ -1,8 +1,5 @@
-use Prim.Native.Nat.{◌-◌, ◌≤◌}
-use mathlib.Core.Path.{◌≡◌, refl, ◌∙◌}
+use mathlib.Core.Path.{refl, ◌∙◌}
 use native.Mathlib.Omega.{arith}
-use lib.ListN.{length, drop}
-use Rattle.processor_soundness.specs.Tests.{small}
 use Rattle.processor_soundness.proofs.TypeText.{small_next, small_stop, small_last}
 use borrow.Author.Rules.{rules}
 use Rattle.processor_soundness.proofs.all_small.Goals as goal

@@ -1,10 +1,7 @@
 use Prim.Native.Nat.{◌-◌, ◌≤◌}
-use mathlib.Core.Path.{◌≡◌, refl, ◌∙◌}
-use native.Mathlib.Omega.{arith}
+use mathlib.Core.Path.{◌≡◌}
 use lib.ListN.{length, drop}
 use Rattle.processor_soundness.specs.Tests.{small}
-use Rattle.processor_soundness.proofs.TypeText.{small_next, small_stop, small_last}
-use borrow.Author.Rules.{rules}
 use Rattle.processor_soundness.proofs.all_small.Given as goal
 
 abbrev pub invariant-loop-i : goal.invariant-loop-i

@@ -1,8 +1,6 @@
-use Prim.Native.Nat.{◌-◌, ◌≤◌}
-use mathlib.Core.Path.{◌≡◌, refl, sym, ◌∙◌}
+use mathlib.Core.Path.{refl}
 use native.Mathlib.Omega.{arith}
-use lib.ListN.{length, drop}
-use Rattle.processor_soundness.proofs.DatalogRoom.{well_kept, kept_many, room_fits, log_goes, log_stops, log_ends}
+use Rattle.processor_soundness.proofs.DatalogRoom.{kept_many, room_fits, log_goes, log_stops, log_ends}
 use borrow.Author.Rules.{rules}
 use Rattle.processor_soundness.proofs.good_log.Goals as goal
 
@@ -20,3 +18,6 @@ loop-k-preserved c = (search rules, search (log_goes, rules))
 
 pub returns : goal.returns
 returns c = search (log_ends, rules)
+
+pub overflow_add-place : goal.overflow_add-place
+overflow_add-place c = omega (arith, room_fits c.args.log.now c.loop-k.place c.entry_room-room.result c.entry_room-room.ensures c.if-room-eq0.false)

@@ -1,9 +1,7 @@
-use Prim.Native.Nat.{◌-◌, ◌≤◌}
-use mathlib.Core.Path.{◌≡◌, refl, sym, ◌∙◌}
-use native.Mathlib.Omega.{arith}
-use lib.ListN.{length, drop}
-use Rattle.processor_soundness.proofs.DatalogRoom.{well_kept, kept_many, room_fits, log_goes, log_stops, log_ends}
-use borrow.Author.Rules.{rules}
+use Prim.Native.Nat.{◌≤◌}
+use mathlib.Core.Path.{◌≡◌}
+use lib.ListN.{drop}
+use Rattle.processor_soundness.proofs.DatalogRoom.{well_kept}
 use Rattle.processor_soundness.proofs.good_log.Given as goal
 
 abbrev pub invariant-loop-k : goal.invariant-loop-k

@@ -1,10 +1,7 @@
-use Prim.Native.Nat.{◌+◌, ◌-◌, ◌≤◌}
-use mathlib.Core.Path.{◌≡◌, ap, ◌∙◌}
-use native.Mathlib.Omega.{arith}
-use lib.ListN.{length, drop}
+use Prim.Native.Nat.{◌-◌, ◌≤◌}
+use mathlib.Core.Path.{◌≡◌}
+use lib.ListN.{drop}
 use Rattle.processor_soundness.specs.Tests.{largest_from, largest}
-use Rattle.processor_soundness.proofs.TypeText.{unmapped, largest_begins, largest_next, largest_last}
-use borrow.Author.Rules.{rules}
 use Rattle.processor_soundness.proofs.largest.Given as goal
 
 abbrev pub invariant-loop-i : goal.invariant-loop-i
