@@ -1,5 +1,6 @@
 // Timers and counters: the names of their sub-elements, and the element in front of a name.
 #![tactic(auto)]
+
 ghost use Rattle.std.specs.Prelude.{◌≡◌, [], ◌∷◌, ◌+◌, ◌≤◌, length, drop};
 ghost use Rattle.parser_spec.specs.Parts.{one};
 ghost use Rattle.parser_spec.specs.Characters.{character};

@@ -1,8 +1,3 @@
-use Prim.Native.Nat.{◌≤◌, ◌-◌}
-use mathlib.Core.Path.{◌≡◌}
-use lib.ListN.{length, drop}
-use Rattle.parser_spec.specs.Characters.{character}
-use Rattle.address_spec.specs.Spelling.{separates, cuts, element_name}
 use Rattle.address_timers.proofs.Timers.{cuts_start, cuts_none, cuts_hit, cuts_miss}
 use borrow.Author.Rules.{rules}
 use Rattle.address_timers.proofs.element_name.Goals as goal
