@@ -2,11 +2,10 @@
 use Prim.Native.Nat.{ℕ, zero, suc, ◌+◌, ◌*◌, ◌-◌, ◌/◌, ◌%◌, ◌<◌, ◌≤◌}
 use Prim.Native.String.{String}
 use mathlib.Core.Path.{◌≡◌, refl, sym, ap, subst, ◌∙◌}
-use mathlib.Core.Bool.{Bool, true, false, ◌&&◌, cond}
+use mathlib.Core.Bool.{Bool, true, false, cond}
 use mathlib.Core.List.{List, [], ◌∷◌, ◌++◌, append_assoc}
 use mathlib.Core.Option.{Option, none, some}
 use native.Mathlib.Nat.{mul-le-mul, mul_comm, le_refl}
-use native.Mathlib.Numerals.{add-one}
 use native.Mathlib.Omega.{arith}
 use borrow.Author.Tests.{leb-true, eqb-true, eqb-false, ltb-true, ltb-false, lt-ltb, le-ltb, ne_eqb, eq-eqb}
 use lib.Dec.{leb, ltb, eqb}
@@ -105,7 +104,7 @@ put_lines h row n (suc c) zero bs t l old fits =
       append_assoc (fitted row 0 (h n)) (lines h row (suc n) c) t,
       put_left (fitted row 0 (h n)) (lines h row (suc n) c ++ t) bs f,
       put_row row (h n) bs o fits,
-      lines_same (changed h n bs) h row (suc n) c (λ k a b. changed_not h n bs k (λ e. omega arith)),
+      lines_same (changed h (n + 0) bs) h row (suc n) c (λ k a b. changed_not h (n + 0) bs k (λ e. omega arith)),
     )
     (sym (append_assoc (fitted row 0 bs) (lines h row (suc n) c) t))
 put_lines h row n (suc c) (suc j) bs t l old fits =
@@ -116,7 +115,7 @@ put_lines h row n (suc c) (suc j) bs t l old fits =
       append_assoc (fitted row 0 (h n)) (lines h row (suc n) c) t,
       r,
       put_right (fitted row 0 (h n)) (lines h row (suc n) c ++ t) (row * j) bs,
-      s,
+      ap (λ (k : ℕ). lines (changed h k bs) row (suc n) c) s,
       put_lines h row (suc n) c j bs t (omega arith) (subst (λ (k : ℕ). length (h k) ≤ length bs) s old) fits,
     )
     (sym (append_assoc (fitted row 0 (h n)) (lines (changed h (suc n + j) bs) row (suc n) c) t))

@@ -1,4 +1,3 @@
-pub mod Filling
 pub mod DirectoryIs
 pub mod Storing
 pub mod DirectoryFilled

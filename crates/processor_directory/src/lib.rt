@@ -1,5 +1,6 @@
 // The file directory that a command asks for: an array of 2,793 zeros, by value, with the rows of a table's first records stored over it.
 #![tactic(auto)]
+
 mod rows;
 
 ghost use Rattle.std.specs.Prelude.{◌≡◌};

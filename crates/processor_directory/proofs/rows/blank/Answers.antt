@@ -1,9 +1,6 @@
-use Prim.Native.Nat.{◌-◌, ◌≤◌}
 use mathlib.Core.Path.{◌≡◌, refl, ap, ◌∙◌}
 use mathlib.Core.List.{List}
 use native.Mathlib.Omega.{arith}
-use borrow.Author.Rules.{rules}
-use lib.ListN.{replicate}
 use Rattle.processor_directory.specs.StoredRows.{zeros, marked_at, marked, blank_of, row_at}
 use Rattle.processor_directory.proofs.Storing.{marked_next}
 use Rattle.processor_directory.proofs.rows.blank.Goals as goal
@@ -13,7 +10,7 @@ unfolding marked zeros
 loop-k-init c = (omega arith, refl)
 
 pub loop-k-preserved : goal.loop-k-preserved
-loop-k-preserved c =     (omega arith, c.mark.ensures ∙ ap (marked_at c.loop-k.d) c.row_at-at.ensures ∙ ap (λ (d : List _). marked_at d (row_at c.args.first c.args.row c.loop-k.k)) c.loop-k.invariant.1 ∙ marked_next c.args.first c.args.row zeros c.loop-k.k)
+loop-k-preserved c = (omega arith, c.mark.ensures ∙ ap (marked_at c.loop-k.d) c.row_at-at.ensures ∙ ap (λ (d : List _). marked_at d (row_at c.args.first c.args.row c.loop-k.k)) c.loop-k.invariant.1 ∙ marked_next c.args.first c.args.row zeros c.loop-k.k)
 
 pub returns : goal.returns
 unfolding blank_of
