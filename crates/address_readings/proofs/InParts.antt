@@ -1,9 +1,9 @@
 -- An accepted tag of a timer or counter in its parts: letter, file and `:`, digits, separator, name; and the same parts with a full stop, read again.
-use Prim.Native.Nat.{ℕ, zero, suc, min, ◌+◌, ◌≤◌, ◌<◌}
+use Prim.Native.Nat.{ℕ, zero, suc, min, ◌≤◌, ◌<◌}
 use Prim.Native.Char.{code}
 use mathlib.Core.Path.{◌≡◌, refl, ap, sym, subst, ◌∙◌}
 use mathlib.Core.List.{List, [], ◌∷◌, ◌++◌, append_assoc}
-use mathlib.Core.Option.{Option, none, some}
+use mathlib.Core.Option.{Option, some}
 use mathlib.Core.Bool.{Bool, true, false, ◌&&◌, cond}
 use native.Mathlib.Nat.{not-suc-le-zero}
 use native.Mathlib.Omega.{arith}
@@ -15,7 +15,7 @@ use Rattle.base.proofs.EveryPlace.{both}
 use Rattle.file_type.specs.declared.FileType.{FileType}
 use Rattle.file_type.specs.declared.FileType.TheVariants.{C, T}
 use Rattle.parser_spec.specs.DecimalNumbers.{is_digit, digit_run, number_of}
-use Rattle.parser_spec.specs.Parts.{or_else, here, byte, digits_in}
+use Rattle.parser_spec.specs.Parts.{or_else, digits_in}
 use Rattle.parser_spec.specs.Characters.{character, capital, utf8}
 use Rattle.parser_spec.proofs.Behind.{run_within}
 use Rattle.parser_spec.proofs.Characters.{small_character, other_capital, letter_read, first_read, first_past}

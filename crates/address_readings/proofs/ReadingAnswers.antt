@@ -1,20 +1,18 @@
 -- Laws by which the readers of a tag are proved: each says what the reading gives from what was met.
 use Prim.Native.Nat.{ℕ, ◌-◌}
-use mathlib.Core.Path.{◌≡◌, refl, ap, sym, ◌∙◌}
+use mathlib.Core.Path.{◌≡◌, sym, ◌∙◌}
 use mathlib.Core.List.{List}
-use mathlib.Core.Bool.{Bool, true, false, ◌&&◌, not, cond}
-use native.Mathlib.Omega.{arith}
+use mathlib.Core.Bool.{Bool, true, false, not}
 use borrow.Author.Tests.{not-true, not-false}
 use lib.ListN.{length}
 use Rattle.file_type.specs.declared.FileType.{FileType}
 use Rattle.address_spec.specs.Spelling.{address_of}
 use Rattle.address_spec.specs.declared.Maybe.{Maybe}
 use Rattle.address_spec.specs.declared.Address.{Address}
-use Rattle.address_spec.specs.declared.Parsed.{Parsed}
 use Rattle.address_spec.specs.declared.Parsed.TheVariants as parsed
 use Rattle.address_readings.specs.declared.Reading.{Reading}
 use Rattle.address_readings.specs.declared.Reading.TheVariants.{New, Stored}
-use Rattle.address_readings.specs.Readings.{plainly, separator, timed, of_timer, retired, address_in}
+use Rattle.address_readings.specs.Readings.{timed, retired, address_in}
 use Rattle.address_readings.specs.Places.{name_length, plain_before, retired_by}
 use Rattle.address_readings.proofs.FromTheEnd.{retired_by_lem}
 

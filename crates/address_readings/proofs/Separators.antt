@@ -20,7 +20,6 @@ use Rattle.address_spec.specs.Spelling.{address, file_then, separates, name_in, 
 use Rattle.address_spec.specs.declared.Maybe.TheVariants.{Missing, Is}
 use Rattle.address_spec.specs.declared.Address.{Address}
 use Rattle.address_readings.specs.Readings.{stands, element_digits, past_element, up_to_separator, separator, plain, plainly}
-use Rattle.address_readings.proofs.ReadingRows.{rows}
 
 -- ---- a full stop and a slash stand before the digits: no digit is one, and no byte above 127
 pub behind_slash : (x : ℕ) → 48 ≤ x → plain x ≡ false

@@ -5,7 +5,7 @@ use Rattle.std.proofs.Math.Option.{Option, none, some}
 use Rattle.file_type.specs.declared.FileType.{FileType}
 use Rattle.file_type.specs.declared.FileType.TheVariants.{O, I, S, B, T, C, R, N, F, ST, A, L, MG, PD, PLS}
 use Rattle.parser_spec.specs.DecimalNumbers.{digit_run}
-use Rattle.parser_spec.specs.Parts.{Part, then, ◌>>◌}
+use Rattle.parser_spec.specs.Parts.{Part, ◌>>◌}
 use Rattle.parser_spec.specs.Characters.{character, well_formed, utf8, first_of}
 use Rattle.address_spec.specs.Spelling.{address, file_then, separates, cut, form_of, address_of}
 use Rattle.address_spec.specs.declared.Address.{Address}

@@ -1,5 +1,6 @@
 // The two readings of a tag, and where the separator of a timer or counter stands.
 #![tactic(auto)]
+
 ghost use Rattle.std.specs.Prelude.{◌≡◌, length, ◌-◌};
 ghost use Rattle.address_readings.specs.Readings.{plain, timed as readings_timed};
 ghost use Rattle.address_readings.specs.Places.{letters_of, name_length, plain_before};
