@@ -1,5 +1,6 @@
 // The masked write: each word of the data memory under a mask, and the mask's low byte for an odd last byte.
 #![tactic(auto)]
+
 ghost use Rattle.std.specs.Prelude.{◌≡◌, ◌+◌, ◌≤◌, ◌<◌, [], ◌∷◌, length};
 ghost use Rattle.base.specs.Masks.{mix};
 ghost use Rattle.base.specs.Numbers.{number};

@@ -1,10 +1,7 @@
 use Prim.Native.Nat.{◌+◌, ◌-◌, ◌≤◌}
-use mathlib.Core.Path.{◌≡◌, refl}
-use native.Mathlib.Omega.{arith}
-use lib.ListN.{length, drop, length-set}
+use mathlib.Core.Path.{◌≡◌}
+use lib.ListN.{length, drop}
 use Rattle.processor_masked_write.specs.Written.{written}
-use Rattle.processor_masked_write.proofs.Turns.{begins, goes, ends_odd, ends_even}
-use borrow.Author.Rules.{rules}
 use Rattle.processor_masked_write.proofs.write_all.Given as goal
 
 abbrev pub invariant-loop-i : goal.invariant-loop-i
