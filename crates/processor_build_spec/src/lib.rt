@@ -1,5 +1,6 @@
 // Building a processor, the plan: the definitions of its parts, how a list of files is judged, and question 14.
 #![tactic(auto)]
+
 ghost use Rattle.std.specs.Prelude.{◌≡◌};
 ghost use Rattle.processor_build_spec.specs.Plans.{refused_with, room_for};
 
