@@ -1,5 +1,6 @@
 // The questions in front of what a command does, and its replies. specs/ has what it does behind them, by the query and the survey.
 #![tactic(auto)]
+
 ghost use Rattle.std.specs.Prelude.{◌≡◌, [], ◌∷◌};
 ghost use Rattle.processor_spec.specs.Refusals.{refusal_of};
 ghost use Rattle.processor_soundness.specs.Sound.{sound_by};
