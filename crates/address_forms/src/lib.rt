@@ -1,5 +1,6 @@
 // The forms of an address, each read from the whole tag.
 #![tactic(auto)]
+
 ghost use Rattle.std.specs.Prelude.{◌≡◌, true, false, drop};
 ghost use Rattle.parser_spec.specs.Characters.{utf8};
 ghost use Rattle.parser_spec.specs.Parts.{whole};
