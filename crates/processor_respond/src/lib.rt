@@ -1,6 +1,7 @@
 // The covered core of `Slc::pccc`: what a command does that doesn't ask for the directory. What the command says and what the file table holds
 // are told by value.
 #![tactic(auto)]
+
 ghost use Rattle.std.specs.Prelude.{◌≡◌, true, [], ◌≤◌, length};
 ghost use Rattle.processor_spec.specs.Frame.{well_formed};
 ghost use Rattle.processor_spec.specs.Pccc.{left, left_by};

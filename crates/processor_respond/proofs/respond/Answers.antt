@@ -4,7 +4,7 @@ use borrow.Author.Rules.{rules}
 use Rattle.processor_respond.proofs.respond.Goals as goal
 
 pub obey-requires : goal.obey-requires
-obey-requires c = (search (well_there, rules), (search (log_good, rules), search (room_there, rules)))
+obey-requires c = record { command_value = search (well_there, rules); log_value = search (log_good, rules); in_bounds = search (room_there, rules) }
 
 pub returns-in-Number : goal.returns-in-Number
 returns-in-Number c = search (refused_by_lem, rules)
