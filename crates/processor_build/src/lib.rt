@@ -1,6 +1,7 @@
 // Building a processor, `Slc::new`, in three parts: `judge` puts the questions, the records are laid in the lent table, each made by
 // `record_of`, and `finish` clears the data and gives the processor.
 #![tactic(auto)]
+
 ghost use Rattle.std.specs.Prelude.{◌≡◌, min, length, replicate};
 ghost use Rattle.base.specs.Put.{put};
 ghost use Rattle.element_text.specs.Text.{fitted};

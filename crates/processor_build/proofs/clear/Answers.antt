@@ -1,8 +1,6 @@
-use Prim.Native.Nat.{◌-◌, ◌≤◌}
-use mathlib.Core.Path.{◌≡◌, refl}
+use mathlib.Core.Path.{refl}
 use native.Mathlib.Omega.{arith}
-use lib.ListN.{length, replicate, length-set}
-use Rattle.base.specs.Put.{put}
+use lib.ListN.{length-set}
 use Rattle.processor_build.proofs.Finishing.{clear_start, clear_next, clear_end}
 use borrow.Author.Rules.{rules}
 use Rattle.processor_build.proofs.clear.Goals as goal

@@ -1,10 +1,7 @@
 use Prim.Native.Nat.{◌-◌, ◌≤◌}
-use mathlib.Core.Path.{◌≡◌, refl}
-use native.Mathlib.Omega.{arith}
-use lib.ListN.{length, replicate, length-set}
+use mathlib.Core.Path.{◌≡◌}
+use lib.ListN.{length, replicate}
 use Rattle.base.specs.Put.{put}
-use Rattle.processor_build.proofs.Finishing.{clear_start, clear_next, clear_end}
-use borrow.Author.Rules.{rules}
 use Rattle.processor_build.proofs.clear.Given as goal
 
 abbrev pub invariant-loop-i : goal.invariant-loop-i

@@ -1,5 +1,4 @@
 use Rattle.processor_build.proofs.Finishing.{slc_is}
-use borrow.Author.Rules.{rules}
 use Rattle.processor_build.proofs.slc_with.Goals as goal
 
 pub returns : goal.returns

@@ -6,4 +6,4 @@ pub slice_bounds-put_all-end-2 : goal.slice_bounds-put_all-end-2
 slice_bounds-put_all-end-2 c = search (cut_length, rules)
 
 pub returns : goal.returns
-returns c = text_is _ _ c.least.ensures _ _ c.put_all.ensures
+returns c = text_is _ _ c.least-n.ensures _ _ c.put_all.ensures
