@@ -1,5 +1,6 @@
 // The address reader: a tag's text to the file, element, position, bit and count that it names.
 #![tactic(auto)]
+
 ghost use Rattle.std.specs.Prelude.{◌≡◌};
 ghost use Rattle.address_readings.specs.Readings.{address_in};
 ghost use Rattle.address_readings.specs.Places.{retired_by};
