@@ -1,5 +1,6 @@
 // What a command does that asks for the directory. What the command says, what the file table holds and the directory are told by value.
 #![tactic(auto)]
+
 ghost use Rattle.std.specs.Prelude.{◌≡◌, true, [], ◌≤◌, length};
 ghost use Rattle.processor_spec.specs.Frame.{well_formed};
 ghost use Rattle.processor_spec.specs.Pccc.{left};

@@ -7,7 +7,7 @@ pub returns-then-q-l : goal.returns-then-q-l
 returns-then-q-l c = search (list_other, told, rules)
 
 pub tell_size-requires : goal.tell_size-requires
-tell_size-requires c = (search rules, ((search (size_low, rules), search (size_high, rules)), search rules))
+tell_size-requires c = record { command_value = search rules; le_size = (search (size_low, rules), search (size_high, rules)); in_bounds = search rules }
 
 pub returns-then-size_asked : goal.returns-then-size_asked
 returns-then-size_asked c = search (list_size, rules)

@@ -4,7 +4,7 @@ use borrow.Author.Rules.{rules}
 use Rattle.processor_show_directory.proofs.show.Goals as goal
 
 pub list-requires : goal.list-requires
-list-requires c = (search (well_there, rules), search (room_there, rules))
+list-requires c = record { command_value = search (well_there, rules); in_bounds = search (room_there, rules) }
 
 pub returns-in-Number : goal.returns-in-Number
 returns-in-Number c = search (unshown_by, rules)
