@@ -1,5 +1,6 @@
 // The file directory of a processor, client side: the data files that its rows name.
 #![tactic(auto)]
+
 mod rows;
 
 ghost use Rattle.std.specs.Prelude.{◌≡◌, ◌<◌, ◌≤◌, length};

@@ -1,5 +1,6 @@
 // One row of a file directory, client side: what it says, the number and the elements of its file, and the place of the next one.
 #![tactic(auto)]
+
 ghost use Rattle.std.specs.Prelude.{◌≡◌, ◌+◌, ◌/◌, min, drop};
 ghost use Rattle.file_type.specs.Table.{row as table_row};
 ghost use Rattle.directory_row.specs.Row.{file_row, other_row, number_of};

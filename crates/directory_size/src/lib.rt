@@ -1,5 +1,6 @@
 // The file directory of a processor, client side: its size.
 #![tactic(auto)]
+
 ghost use Rattle.std.specs.Prelude.{◌≡◌};
 ghost use Rattle.directory_size.specs.Size.{size_in, size_of, reply_size};
 

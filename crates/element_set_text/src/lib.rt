@@ -1,5 +1,6 @@
 // Text into the bytes of an element.
 #![tactic(auto)]
+
 ghost use Rattle.element_spec.specs.Encode.{Stores, of_bytes, ascii_of, line_of};
 
 use element_spec::Stored;

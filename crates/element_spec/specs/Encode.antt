@@ -1,5 +1,5 @@
 -- Values into the bytes of one element (document 01, "Element access" and module 2).
-use Rattle.std.specs.Prelude.{ℕ, ◌+◌, ◌-◌, ◌*◌, ◌≡◌, Bool, true, false, ◌&&◌, cond, List, [], ◌∷◌, ◌++◌, leb, ltb, ℤ, length, take, drop}
+use Rattle.std.specs.Prelude.{ℕ, ◌+◌, ◌-◌, ◌*◌, ◌≡◌, Bool, ◌&&◌, cond, List, ◌++◌, leb, ltb, ℤ, length, take, drop}
 use Rattle.base.specs.Masks.{mix, bit_mask}
 use Rattle.base.specs.Numbers.{low_first, number}
 use Rattle.base.specs.Outcome.{Outcome, refused, lays, left}

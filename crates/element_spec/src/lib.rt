@@ -1,5 +1,6 @@
 // The values of the twelve file types, which of them suit a type, and by definition the bytes that they set and the values that bytes give.
 #![tactic(auto)]
+
 pub mod kind;
 
 // A value to set. Text, and the name of a field, stand beside it.

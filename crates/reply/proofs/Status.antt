@@ -7,16 +7,16 @@ use mathlib.Core.List.{List, [], ◌∷◌, ◌++◌, append-nil}
 use native.Mathlib.Nat.{zero-add}
 use native.Mathlib.Omega.{arith}
 use borrow.Author.Tests.{lt-ltb, le-ltb, ne_eqb, ltb-false}
-use lib.Dec.{eqb, ltb}
+use lib.Dec.{ltb}
 use lib.ListN.{length, get_or, length-append}
 use Rattle.base.specs.Chars.{bytes}
-use Rattle.base.specs.Put.{put, Wrote, Puts}
+use Rattle.base.specs.Put.{Wrote, Puts}
 use Rattle.base.proofs.Put.{and_then, wrote_length, puts_wrote}
 use Rattle.reply_status_text.specs.declared.StatusText.{StatusText}
 use Rattle.reply_status_text.specs.declared.StatusText.TheVariants as statusText·
 use Rattle.reply_status_text.specs.Texts.{text_of, Tells}
 use Rattle.reply_status_text.proofs.StatusTexts.{told}
-use Rattle.reply_part.specs.Part.{of_raw, of_reply, data_of}
+use Rattle.reply_part.specs.Part.{data_of}
 use Rattle.reply_part.proofs.Parts.{one_part}
 use Rattle.reply.specs.Status.{digit, in_hex, first, named, extended, said, status_in, status_text, reply_status, datalog_entry, reply_datalog}
 

@@ -1,5 +1,6 @@
 // The requests without an address text: for the processor type, for a datalog entry, and for the size and the rows of the file directory.
 #![tactic(auto)]
+
 ghost use Rattle.request_untagged.specs.Requests.{Builds, processor_type, datalog, directory_size, directory_read};
 
 use directory_sys0::Sys0Info;

@@ -6,4 +6,4 @@ pub returns-then-out-lt27 : goal.returns-then-out-lt27
 returns-then-out-lt27 c = search (datalog_none, rules)
 
 pub returns : goal.returns
-returns c =     datalog_sent _ c.if-out-lt27.false c.command-a.ensures c.put_all.ensures
+returns c = datalog_sent _ c.if-out-lt27.false c.command-a.ensures c.put_all.ensures

@@ -6,4 +6,4 @@ pub returns-then-out-lt27 : goal.returns-then-out-lt27
 returns-then-out-lt27 c = search (processor_none, rules)
 
 pub returns : goal.returns
-returns c =     processor_sent _ _ (search (c.well_formed, rules)) (search (c.well_formed, rules)) c.if-out-lt27.false c.command-a.ensures c.put_all.ensures
+returns c = processor_sent _ _ (search (c.well_formed, rules)) (search (c.well_formed, rules)) c.if-out-lt27.false c.command-a.ensures c.put_all.ensures

@@ -1,9 +1,4 @@
 use borrow.Author.Rules.{rules}
-use Prim.Native.Nat.{◌-◌, ◌≤◌}
-use mathlib.Core.Path.{◌≡◌}
-use lib.ListN.{length}
-use Rattle.directory.specs.Passes.{count_from}
-use Rattle.directory.specs.Rows.{rows}
 use Rattle.directory.proofs.FirstPass.{count_done, count_stop, count_few, count_turn}
 use Rattle.directory.proofs.rows.count_files.Goals as goal
 

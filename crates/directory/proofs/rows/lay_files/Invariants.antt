@@ -1,10 +1,8 @@
-use borrow.Author.Rules.{rules}
 use Prim.Native.Nat.{◌+◌, ◌-◌, ◌≤◌}
 use mathlib.Core.Path.{◌≡◌}
 use lib.ListN.{length}
 use Rattle.directory.specs.Passes.{lay}
 use Rattle.directory.specs.Rows.{rows, files_from}
-use Rattle.directory.proofs.SecondPass.{row_left, small_number, row_fewer, left_turn, files_turn, number_turn, lay_done}
 use Rattle.directory.proofs.rows.lay_files.Given as goal
 
 abbrev pub invariant-loop-p : goal.invariant-loop-p
