@@ -1,5 +1,6 @@
 // The text of an accepted address with a timer's or counter's separator replaced by a full stop.
 #![tactic(auto)]
+
 ghost use Rattle.std.specs.Prelude.{◌≡◌, length, ◌≤◌};
 ghost use Rattle.base.specs.Put.{Wrote};
 ghost use Rattle.address_readings.specs.Places.{separator_start, replaced, dotted_by};

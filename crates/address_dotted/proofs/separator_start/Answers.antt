@@ -1,6 +1,4 @@
-use Prim.Native.Nat.{◌≤◌}
-use mathlib.Core.Path.{◌≡◌, refl}
-use Rattle.address_readings.specs.Places.{far_start}
+use mathlib.Core.Path.{refl}
 use Rattle.address_dotted.proofs.Dotting.{start_none, start_here, start_on, start_first}
 use native.Mathlib.Omega.{arith}
 use borrow.Author.Rules.{rules}

@@ -1,9 +1,6 @@
 use Prim.Native.Nat.{◌≤◌}
-use mathlib.Core.Path.{◌≡◌, refl}
+use mathlib.Core.Path.{◌≡◌}
 use Rattle.address_readings.specs.Places.{far_start}
-use Rattle.address_dotted.proofs.Dotting.{start_none, start_here, start_on, start_first}
-use native.Mathlib.Omega.{arith}
-use borrow.Author.Rules.{rules}
 use Rattle.address_dotted.proofs.separator_start.Given as goal
 
 abbrev pub invariant-loop-e : goal.invariant-loop-e
