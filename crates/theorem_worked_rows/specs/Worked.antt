@@ -1,9 +1,8 @@
 -- The worked rows of document 01, W1 to W11: what the definitions give beside what the paper says. Its tags are read as from a stored list (A12: "The present reading").
-use Rattle.std.specs.Prelude.{ℕ, true, List, [], ◌∷◌, map, take, drop, replicate}
+use Rattle.std.specs.Prelude.{ℕ, true, List, [], ◌∷◌, take, drop, replicate}
 use Prim.Native.String.{String}
 use Rattle.base.specs.Chars.{bytes}
 use Rattle.file_type.specs.Table.{row}
-use Rattle.address_spec.specs.declared.Address.{Address}
 use Rattle.address_spec.specs.declared.Parsed.{Parsed}
 use Rattle.address_spec.specs.declared.Parsed.TheVariants as parsed
 use Rattle.address_spec.specs.Spelling.{address_of, or_zero}
