@@ -1,7 +1,7 @@
 -- Questions 3 to 5, and where a request points.
-use Prim.Native.Nat.{ℕ, ◌+◌, ◌-◌, ◌*◌, ◌≤◌, ◌<◌}
-use mathlib.Core.Path.{◌≡◌, refl, ap, sym, ◌∙◌}
-use mathlib.Core.Bool.{Bool, true, false, not, ◌&&◌, ◌||◌, cond}
+use Prim.Native.Nat.{ℕ, ◌*◌, ◌≤◌, ◌<◌}
+use mathlib.Core.Path.{◌≡◌}
+use mathlib.Core.Bool.{Bool, true, false, not, ◌&&◌, ◌||◌}
 use native.Mathlib.Nat.{mul-le-mul_right}
 use native.Mathlib.Omega.{arith}
 use mir.Syntax.{w64}
@@ -11,14 +11,13 @@ use lib.Dec.{leb, ltb, eqb}
 use Rattle.file_type.specs.Table.{row}
 use Rattle.file_type.proofs.FileTypes.{size_some, size_most}
 use Rattle.address_spec.specs.declared.Address.{Address}
-use Rattle.address_spec.specs.Elements.{Elements, elements_of}
+use Rattle.address_spec.specs.Elements.{elements_of}
 use Rattle.address_spec.specs.Spelling.{or_zero}
 use Rattle.request_frame.specs.declared.Target.{Target}
-use Rattle.request_spec.specs.SizeAnswers.{size_of, data_size_of}
+use Rattle.request_spec.specs.SizeAnswers.{size_of}
 use Rattle.request_spec.specs.Request.{bit_and_count, place, read_size, preset_or_accum, bit_suits, text_suits, suits, last_address}
 use Rattle.request_spec.specs.declared.WriteValue.{WriteValue}
 use Rattle.request_spec.specs.declared.WriteValue.TheVariants as value
-use Rattle.request_spec.specs.declared.Size.{Size}
 use Rattle.request_spec.specs.declared.Size.TheVariants as size
 
 -- ---- 3

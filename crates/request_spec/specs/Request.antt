@@ -1,11 +1,11 @@
 -- Reads and writes of an address text (document 01, questions 1 to 6 and "Request bytes").
-use Rattle.std.specs.Prelude.{ℕ, ◌-◌, ◌*◌, ◌≡◌, Bool, true, false, not, ◌&&◌, ◌||◌, cond, List, [], ◌∷◌, ◌++◌, leb, ltb, eqb, length}
+use Rattle.std.specs.Prelude.{ℕ, ◌-◌, ◌*◌, ◌≡◌, Bool, true, not, ◌&&◌, ◌||◌, cond, List, ◌++◌, leb, ltb, eqb, length}
 use Rattle.base.specs.Masks.{bit_mask}
 use Rattle.base.specs.Numbers.{low_first}
 use Rattle.base.specs.Put.{put}
 use Rattle.file_type.specs.Table.{row}
 use Rattle.file_type.specs.declared.FileType.{FileType}
-use Rattle.file_type.specs.declared.FileType.TheVariants.{O, I, S, B, T, C, R, N, F, ST, A, L, MG, PD, PLS}
+use Rattle.file_type.specs.declared.FileType.TheVariants.{T, C, ST, A}
 use Rattle.element_text.specs.Text.{ascii_text, string_text}
 use Rattle.address_spec.specs.declared.Address.{Address}
 use Rattle.address_spec.specs.declared.Parsed.{Parsed}

@@ -1,5 +1,6 @@
 // Reads and writes of an address text: their definitions (specs/), questions 3 and 5 of a read, and where a request points.
 #![tactic(auto)]
+
 ghost use Rattle.std.specs.Prelude.{◌≡◌};
 ghost use Rattle.address_spec.specs.Elements.{elements_of};
 ghost use Rattle.address_spec.specs.Spelling.{or_zero};
