@@ -1,7 +1,7 @@
 -- Demand 3: nobody who sends only commands that avoid a closed file can learn or change a byte of it (document 01 (e)).
 use Rattle.std.specs.Prelude.{ℕ, ◌≡◌, Bool, true, false, not, ◌&&◌, ◌||◌, cond, List, [], ◌∷◌, map, eqb, length}
 use Rattle.std.proofs.Math.Option.{Option, none, some}
-use Rattle.parser_spec.specs.Parts.{then, ◌>>=◌, give}
+use Rattle.parser_spec.specs.Parts.{◌>>=◌, give}
 use Rattle.processor_spec.specs.Files.{shape, contents}
 use Rattle.processor_spec.specs.Frame.{well_formed, cmd, function}
 use Rattle.processor_spec.specs.Params.{number_of, address, asks_directory, asks_datalog}
