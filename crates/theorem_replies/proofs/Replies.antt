@@ -1,7 +1,7 @@
 -- A client reads of the processor's reply what the processor put there, whatever the length of the requester's id.
 use Prim.Native.Nat.{ℕ, zero, suc, ◌+◌, ◌≤◌, ◌<◌}
 use mathlib.Core.Path.{◌≡◌, sym, ap, ◌∙◌}
-use mathlib.Core.Bool.{Bool, true, ◌&&◌}
+use mathlib.Core.Bool.{true, ◌&&◌}
 use mathlib.Core.List.{List, [], ◌∷◌, ◌++◌}
 use mathlib.Core.Option.{some}
 use native.Mathlib.Omega.{arith}
@@ -9,7 +9,7 @@ use borrow.Author.Tests.{leb-true, ltb-true}
 use lib.Dec.{leb, ltb}
 use lib.ListN.{length, get_or, take, drop}
 use lib.Seq.{length-take-le, drop-append-add}
-use Rattle.processor_spec.specs.Frame.{well_formed, requester, body, cmd, framed}
+use Rattle.processor_spec.specs.Frame.{well_formed, requester, body, framed}
 use Rattle.processor_spec.proofs.Tests.{and_l, and_r}
 use Rattle.reply_part.specs.Part.{of_reply, data_of}
 use Rattle.reply.specs.Status.{first, said, status_in, reply_status, reply_datalog}
