@@ -1,2 +1,2 @@
 pub mod DirectoryFills
-pub mod Answer
+pub mod ByQuery

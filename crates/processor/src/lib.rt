@@ -1,5 +1,6 @@
 // The simulated processor's command, `Slc::pccc`, over the lent table.
 #![tactic(auto)]
+
 ghost use Rattle.std.specs.Prelude.{◌≡◌};
 ghost use Rattle.processor_spec.specs.Pccc.{Says};
 

@@ -1,2 +1,2 @@
-// No code: `proofs/` has the laws of the calls that are lent the table. Each is a walk of the MIR that every call of one shape has.
+// No code and no laws of its own: each call that is lent the table is proved in its own crate, by what it calls.
 #![tactic(auto)]

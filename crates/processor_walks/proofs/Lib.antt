@@ -1,4 +1,0 @@
-pub mod Callees
-pub mod Choosing
-pub mod Bridging
-pub mod LayRecords
