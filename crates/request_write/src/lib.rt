@@ -1,5 +1,6 @@
 // Questions 4 and 5 of a write, its last address field, and its mask word and data in lent memory.
 #![tactic(auto)]
+
 ghost use Rattle.std.specs.Prelude.{◌≡◌, false, ◌||◌, eqb, length};
 ghost use Rattle.base.specs.Put.{Puts};
 ghost use Rattle.request_spec.specs.SizeAnswers.{data_size_of};
