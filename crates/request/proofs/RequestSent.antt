@@ -3,11 +3,11 @@ use Prim.Native.Nat.{ℕ, ◌+◌, ◌-◌, ◌≤◌, ◌<◌}
 use mathlib.Core.Path.{◌≡◌, refl, ap, sym, ◌∙◌, subst}
 use mathlib.Core.Logic.{◌⊎◌, inl, inr}
 use mathlib.Core.Bool.{Bool, true, false, not, ◌&&◌, ◌||◌, cond}
-use mathlib.Core.List.{List, [], ◌∷◌, ◌++◌}
+use mathlib.Core.List.{List, ◌++◌}
 use native.Mathlib.Nat.{zero-add}
 use native.Mathlib.Omega.{arith}
 use borrow.Author.Tests.{le-leb, lt-leb, leb-true, eqb-true, not-true, not-false}
-use lib.Dec.{leb, ltb, eqb}
+use lib.Dec.{leb, eqb}
 use lib.ListN.{length, length-append}
 use Rattle.base.specs.Put.{Wrote, Puts}
 use Rattle.base.proofs.Put.{lays, then, puts_wrote}
@@ -15,7 +15,7 @@ use Rattle.file_type.specs.declared.FileType.TheVariants.{T, C}
 use Rattle.address_spec.specs.declared.Address.{Address}
 use Rattle.address_spec.specs.declared.Parsed.{Parsed}
 use Rattle.address_spec.specs.declared.Parsed.TheVariants as parsed
-use Rattle.address_spec.specs.Elements.{Elements, elements_of}
+use Rattle.address_spec.specs.Elements.{elements_of}
 use Rattle.address_spec.specs.Spelling.{or_zero}
 use Rattle.address_readings.specs.declared.Reading.{Reading}
 use Rattle.address_readings.specs.Readings.{address_in}
@@ -26,7 +26,7 @@ use Rattle.request_frame.specs.declared.Target.{Target}
 use Rattle.request_frame.specs.declared.Requestor.{Requestor}
 use Rattle.request_frame.proofs.Laid.{short_length, field_most}
 use Rattle.request_spec.specs.SizeAnswers.{sized, size_of, data_size_of}
-use Rattle.request_spec.specs.Request.{Asked, refused, sends, Builds, bit_and_count, place, read_size, read_message, read_address, on_address, is, preset_or_accum, suits, supplied, last_address, write_message, write_data, write_address}
+use Rattle.request_spec.specs.Request.{Asked, Builds, bit_and_count, place, read_size, read_message, read_address, on_address, is, preset_or_accum, suits, supplied, last_address, write_message, write_data, write_address}
 use Rattle.request_spec.specs.declared.Request.{Request}
 use Rattle.request_spec.specs.declared.Request.TheVariants as request
 use Rattle.request_spec.specs.declared.WriteValue.{WriteValue}

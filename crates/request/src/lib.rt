@@ -1,5 +1,6 @@
 // Requests that read and write what an address text names.
 #![tactic(auto)]
+
 ghost use Rattle.std.specs.Prelude.{◌≡◌};
 ghost use Rattle.request_spec.specs.Request.{Builds, reading as request_reading, writing};
 
