@@ -1,6 +1,7 @@
 // The simulated processor's records of the C interface, and the covered parts of its exported calls: each calls a proved function and tells
 // its answer in numbers.
 #![tactic(auto)]
+
 ghost use Rattle.std.specs.Prelude.{◌≡◌};
 ghost use Rattle.processor_build_spec.specs.Plans.{finish_of};
 ghost use Rattle.processor_refinement.specs.CallBySurvey.{respond_of, show_of};
