@@ -1,6 +1,7 @@
 // The records of the C interface for file types and the names of their fields, and what makes them of the calls' answers: C has no enums that hold
 // values.
 #![tactic(auto)]
+
 ghost use Rattle.std.specs.Prelude.{◌≡◌, [], ◌≤◌};
 ghost use Rattle.link_types.specs.Types.{known_type, type_record, short_name, name_record, bit_name_in, word_name_in, field_in, field_record};
 
