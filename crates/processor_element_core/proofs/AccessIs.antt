@@ -1,15 +1,15 @@
 -- What is read and set by the survey of the table is what is read and set of the state.
-use Prim.Native.Nat.{ℕ, ◌+◌, ◌*◌, ◌≤◌, ◌<◌}
+use Prim.Native.Nat.{ℕ, ◌+◌, ◌*◌, ◌<◌}
 use mathlib.Core.Path.{◌≡◌, refl, sym, ap, ap₂, subst, ◌∙◌}
 use mathlib.Core.Bool.{Bool, true, false, ◌&&◌, cond}
 use mathlib.Core.List.{List, [], ◌∷◌}
 use mathlib.Core.Option.{Option, none, some}
 use native.Mathlib.Omega.{arith}
 use borrow.Author.Tests.{eqb-true, ltb-true}
-use lib.Dec.{leb, ltb, eqb}
-use lib.ListN.{length, take, drop}
-use Rattle.base.specs.Outcome.{Outcome, refused}
-use Rattle.element_spec.specs.Decode.{Says, refuses}
+use lib.Dec.{leb, eqb}
+use lib.ListN.{length, take}
+use Rattle.base.specs.Outcome.{refused}
+use Rattle.element_spec.specs.Decode.{refuses}
 use Rattle.file_type.specs.declared.FileType.{FileType}
 use Rattle.file_type.specs.Table.{row, simulated_size, element_size}
 use Rattle.file_type.proofs.FileTypes.{own_code}
@@ -18,15 +18,14 @@ use Rattle.processor_spec.specs.declared.FileRecord.{FileRecord}
 use Rattle.processor_spec.specs.declared.Slc.{Slc}
 use Rattle.processor_spec.specs.ElementAccess.{element_at, set_at, set_of, read_at, read_of}
 use Rattle.processor_spec.specs.Files.{find, offset, place_in, locate}
-use Rattle.processor_spec.specs.Plain.{entries, holds, within, held_state, no_state, state_of}
-use Rattle.processor_spec.specs.State.{State, every, known_code, good_record, total, good_text, good_log, good_table, sound}
+use Rattle.processor_spec.specs.Plain.{within, held_state, no_state, state_of}
+use Rattle.processor_spec.specs.State.{State, every, known_code, good_record, good_table, sound}
 use Rattle.processor_spec.proofs.Files.{sound_table}
-use Rattle.processor_spec.proofs.Plain.{sound_plain, sound_within, held_is}
+use Rattle.processor_spec.proofs.Plain.{sound_within, held_is}
 use Rattle.processor_spec.proofs.Tests.{and_l, and_r}
-use Rattle.processor_soundness.specs.Sound.{sound_by}
 use Rattle.processor_soundness.proofs.Surveyed.{sound_is}
 use Rattle.processor_table.specs.declared.Seen.{Seen}
-use Rattle.processor_table.specs.Survey.{there, or_none, told_of, lost_of, survey_of}
+use Rattle.processor_table.specs.Survey.{there, or_none, told_of, survey_of}
 use Rattle.processor_element_core.specs.declared.Setting.{Setting}
 use Rattle.processor_element_core.specs.declared.Spot.{Spot}
 use Rattle.processor_element_core.specs.AccessBySurvey.{element_by, read_by, set_by}

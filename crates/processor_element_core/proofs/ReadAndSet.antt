@@ -1,15 +1,14 @@
 -- Reading and setting, question by question.
 use Prim.Native.Nat.{ℕ, ◌+◌, ◌-◌, ◌≤◌, ◌<◌, min}
-use mathlib.Core.Path.{◌≡◌, refl, sym, ap, ap₂, subst, ◌∙◌}
-use mathlib.Core.Bool.{Bool, true, false, not, cond}
-use mathlib.Core.List.{List, [], ◌∷◌, ◌++◌, append_assoc, append-nil}
-use mathlib.Core.Option.{Option, none, some}
+use mathlib.Core.Path.{◌≡◌, refl, sym, ap, subst, ◌∙◌}
+use mathlib.Core.Bool.{Bool, true, false, not}
+use mathlib.Core.List.{List, [], ◌∷◌, ◌++◌, append_assoc}
 use native.Mathlib.Omega.{arith}
 use borrow.Author.Tests.{leb-true, leb-false, lt-ltb, not-true, not-false}
-use lib.Dec.{leb, ltb}
+use lib.Dec.{leb}
 use lib.ListN.{length, take, drop, length-append, length-take, length-drop, take-append-drop}
 use lib.Seq.{length-take-le, take-add, take-take, drop-drop, drop-append-le}
-use Rattle.base.specs.Outcome.{Outcome, refused, lays, left}
+use Rattle.base.specs.Outcome.{Outcome, refused, lays}
 use Rattle.base.specs.Put.{put}
 use Rattle.base.proofs.Put.{put_none}
 use Rattle.element_spec.specs.declared.Element.{Element}
@@ -18,7 +17,7 @@ use Rattle.element_spec.specs.Decode.{Says, Reads, decoded}
 use Rattle.element_spec.specs.declared.Stored.{Stored}
 use Rattle.element_spec.specs.declared.Stored.TheVariants as stored
 use Rattle.element_spec.specs.declared.Value.{Value}
-use Rattle.element_spec.specs.Encode.{Stores, stored_of, encoded}
+use Rattle.element_spec.specs.Encode.{Stores, encoded}
 use Rattle.file_type.specs.declared.FileType.{FileType}
 use Rattle.file_type.specs.Table.{row}
 use Rattle.file_type.proofs.FileTypes.{size_some}

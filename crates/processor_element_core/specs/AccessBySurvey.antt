@@ -1,5 +1,5 @@
 -- Element access, by what the survey of the file table tells (document 01, "Element access").
-use Rattle.std.specs.Prelude.{ℕ, ◌+◌, ◌*◌, Bool, ◌&&◌, cond, List, leb, eqb, length}
+use Rattle.std.specs.Prelude.{ℕ, ◌+◌, ◌*◌, ◌&&◌, cond, List, leb, eqb, length}
 use Rattle.std.proofs.Math.Option.{Option, none, some}
 use Rattle.base.specs.Outcome.{Outcome, refused}
 use Rattle.element_spec.specs.Decode.{Says, refuses}

@@ -1,4 +1,4 @@
-use Rattle.processor_element_core.proofs.ElementPlaces.{no_file, other_type, size_divides, past_end, offset_fits, place_fits, place_is}
+use Rattle.processor_element_core.proofs.ElementPlaces.{no_file, other_type, size_divides, past_end, place_is}
 use borrow.Author.Rules.{rules}
 use Rattle.processor_element_core.proofs.locate.Goals as goal
 
