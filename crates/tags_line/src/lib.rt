@@ -1,5 +1,6 @@
 // The answer to one line of the program `tags`, and the definition of the whole program (specs/Lines.antt).
 #![tactic(auto)]
+
 ghost use Rattle.std.specs.Prelude.{[], ◌∷◌, ◌++◌};
 ghost use Rattle.base.specs.Put.{Puts};
 ghost use Rattle.request_spec.specs.Request.{refused};
