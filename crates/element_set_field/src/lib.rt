@@ -1,5 +1,6 @@
 // Numbers, bits and named fields into the bytes of an element.
 #![tactic(auto)]
+
 ghost use Rattle.std.specs.Prelude.{◌+◌, ◌≤◌, cond, ◌≡◌, length};
 ghost use Rattle.file_type.specs.Fields.{Placed};
 ghost use Rattle.element_spec.specs.Encode.{Stores, of_bytes, whole_at, bit_of, field_of, named_of};

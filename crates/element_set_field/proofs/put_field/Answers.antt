@@ -1,4 +1,3 @@
-use native.Mathlib.Omega.{arith}
 use Rattle.element_set_field.proofs.SetField.{field_unknown, field_word, field_bit}
 use borrow.Author.Rules.{rules}
 use Rattle.element_set_field.proofs.put_field.Goals as goal
