@@ -1,2 +1,1 @@
 pub mod RecordsByValue
-pub mod AccessByValue

@@ -1,5 +1,6 @@
 // Element access of the simulated processor, over the lent table.
 #![tactic(auto)]
+
 ghost use Rattle.std.specs.Prelude.{length};
 ghost use Rattle.element_spec.specs.Decode.{Reads};
 ghost use Rattle.element_spec.specs.Encode.{Stores};

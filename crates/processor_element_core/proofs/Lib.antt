@@ -1,3 +1,4 @@
 pub mod ElementPlaces
 pub mod ReadAndSet
 pub mod AccessIs
+pub mod AccessByTable

@@ -1,4 +1,4 @@
-use Rattle.processor_by_value.proofs.AccessByValue.{sets}
+use Rattle.processor_element_core.proofs.AccessByTable.{sets}
 use borrow.Author.Rules.{rules}
 use Rattle.processor_by_value.proofs.set_on.Goals as goal
 

@@ -1,4 +1,0 @@
-pub mod Accessing
-pub mod Reading
-pub mod Setting
-pub mod Wanting
