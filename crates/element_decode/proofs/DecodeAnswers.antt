@@ -1,22 +1,22 @@
 -- Laws of reading an element, one for each answer.
 use Prim.Native.Nat.{ℕ, ◌-◌, ◌^◌, ◌≤◌, ◌<◌, min}
 use mathlib.Core.Path.{◌≡◌, refl, ap, sym, subst, ◌∙◌}
-use mathlib.Core.List.{List, [], ◌∷◌, ◌++◌}
-use mathlib.Core.Bool.{Bool, true, false, cond}
+use mathlib.Core.List.{List, [], ◌∷◌}
+use mathlib.Core.Bool.{true, false}
 use native.Mathlib.Omega.{arith}
 use borrow.Author.Tests.{lt-ltb, le-ltb}
 use lib.Bits.{bit_and, and_mask}
 use lib.Dec.{ltb}
 use lib.IntN.{ℤ}
-use lib.ListN.{length, take, drop, get_or, length-take, length-drop}
+use lib.ListN.{length, take, drop, get_or, length-drop}
 use lib.Pow.{pow_pos}
-use lib.Seq.{length-take-le, drop-cons}
+use lib.Seq.{length-take-le}
 use mir.Syntax.{w16, w32}
 use mir.Val.{SFits, to_z, of_z}
 use mir.ValLaws.{to_z-of_z}
 use Rattle.base.specs.Masks.{bit_mask}
 use Rattle.base.specs.Numbers.{number}
-use Rattle.base.specs.Put.{put, Puts}
+use Rattle.base.specs.Put.{Puts}
 use Rattle.base.proofs.Put.{put_whole, puts_wrote}
 use Rattle.file_type.specs.declared.FileType.{FileType}
 use Rattle.file_type.specs.Table.{row, bit_names}
@@ -27,7 +27,7 @@ use Rattle.element_spec.specs.declared.Element.TheVariants as element
 use Rattle.element_spec.specs.declared.kind.ElementKind.{ElementKind}
 use Rattle.element_spec.specs.declared.kind.ElementKind.TheVariants as kind
 use Rattle.element_spec.specs.Encode.{kind_of}
-use Rattle.element_spec.specs.Decode.{named_bits, Says, refuses, text_in, word_at, decode_as, decoded, element_of, text_left, Reads}
+use Rattle.element_spec.specs.Decode.{named_bits, text_in, word_at, decode_as, decoded, element_of, text_left, Reads}
 use Rattle.element_whole.specs.Whole.{signed}
 
 -- ---- words and longs

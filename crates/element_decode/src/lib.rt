@@ -1,5 +1,6 @@
 // Values of the twelve file types from the bytes of one element.
 #![tactic(auto)]
+
 mod get;
 
 ghost use Rattle.std.specs.Prelude.{length};
