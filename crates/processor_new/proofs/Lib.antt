@@ -1,1 +1,1 @@
-pub mod NewMeets
+pub mod StoredRecords

@@ -1,5 +1,6 @@
 // Building a processor, `Slc::new`, in a lent table and a lent data memory.
 #![tactic(auto)]
+
 ghost use Rattle.std.specs.Prelude.{◌≡◌};
 ghost use Rattle.processor_spec.specs.Build.{new_of, plan_of, raised};
 ghost use Rattle.processor_build_spec.specs.Plans.{laid_of};
