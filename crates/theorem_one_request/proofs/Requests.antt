@@ -16,7 +16,7 @@ use Rattle.request_frame.specs.declared.Target.{Target}
 use Rattle.request_frame.specs.declared.Requestor.{Requestor}
 use Rattle.parser_spec.specs.Parts.{then}
 use Rattle.processor_spec.specs.Frame.{well_formed, body, cmd, function}
-use Rattle.processor_spec.specs.Params.{several, number_of, address, header}
+use Rattle.processor_spec.specs.Params.{number_of, address, header}
 use Rattle.processor_spec.proofs.Tests.{and_both}
 use Rattle.processor_spec.proofs.Reader.{several_back, byte_back}
 
