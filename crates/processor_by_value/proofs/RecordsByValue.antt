@@ -1,18 +1,17 @@
 -- Records stored one by one, and surveyed one by one, in an array of 256.
-use Prim.Native.Nat.{ℕ, zero, suc, ◌+◌, ◌<◌, ◌≤◌, min}
+use Prim.Native.Nat.{ℕ, ◌+◌, ◌<◌, ◌≤◌, min}
 use mathlib.Core.Path.{◌≡◌, refl, sym, ap, ◌∙◌}
 use mathlib.Core.List.{List}
 use native.Mathlib.Numerals.{add-one}
 use native.Mathlib.Omega.{arith}
-use lib.ListN.{length, get_or, set, take, drop, replicate, length-set, length-replicate}
+use lib.ListN.{length, get_or, set, take, drop, replicate, length-replicate}
 use Rattle.processor_build_spec.specs.Plans.{record_of, stored, laid_of}
 use Rattle.processor_spec.specs.declared.FileRecord.{FileRecord}
 use Rattle.processor_table.specs.declared.Pass.{Pass}
 use Rattle.processor_table.specs.declared.Seen.{Seen}
 use Rattle.processor_table.specs.SurveySteps.{folded, begun_of, passed_of, concluded_of}
 use Rattle.processor_table.specs.Survey.{no_record, survey_of}
-use Rattle.processor_table.proofs.SurveyRight.{survey_right}
-use Rattle.processor_table.proofs.TableLoop.{sees, at_end_lem}
+use Rattle.processor_table.proofs.SurveyRight.{sees, at_end_lem, survey_right}
 
 abbrev pub blank : List FileRecord
 blank = replicate 256 no_record

@@ -1,9 +1,7 @@
 use Prim.Native.Nat.{◌-◌, ◌≤◌, min}
-use mathlib.Core.Path.{◌≡◌, refl, ap, ◌∙◌}
-use native.Mathlib.Omega.{arith}
-use borrow.Author.Rules.{rules}
+use mathlib.Core.Path.{◌≡◌}
 use Rattle.processor_build_spec.specs.Plans.{stored}
-use Rattle.processor_by_value.proofs.RecordsByValue.{blank, none_yet, one_more, in_all}
+use Rattle.processor_by_value.proofs.RecordsByValue.{blank}
 use Rattle.processor_by_value.proofs.laid.Given as goal
 
 abbrev pub invariant-loop-i : goal.invariant-loop-i

@@ -1,9 +1,6 @@
 use Prim.Native.Nat.{◌-◌, ◌≤◌, min}
-use mathlib.Core.Path.{◌≡◌, refl}
-use native.Mathlib.Omega.{arith}
-use borrow.Author.Rules.{rules}
-use lib.ListN.{length}
-use Rattle.processor_by_value.proofs.RecordsByValue.{Left, survey_first, survey_next, survey_last}
+use mathlib.Core.Path.{◌≡◌}
+use Rattle.processor_by_value.proofs.RecordsByValue.{Left}
 use Rattle.processor_by_value.proofs.survey_on.Given as goal
 
 abbrev pub invariant-loop-i : goal.invariant-loop-i
