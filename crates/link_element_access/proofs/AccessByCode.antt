@@ -4,9 +4,9 @@ use mathlib.Core.Path.{◌≡◌, ap, sym, subst, ◌∙◌}
 use mathlib.Core.Bool.{Bool, true, false}
 use mathlib.Core.List.{List}
 use lib.ListN.{length}
-use Rattle.base.specs.Outcome.{Outcome, refused}
+use Rattle.base.specs.Outcome.{refused}
 use Rattle.element_spec.specs.declared.Element.{Element}
-use Rattle.element_spec.specs.Decode.{Says, refuses, Reads}
+use Rattle.element_spec.specs.Decode.{refuses, Reads}
 use Rattle.processor_element_core.specs.declared.Setting.{Setting}
 use Rattle.processor_element_core.specs.declared.Spot.{Spot}
 use Rattle.processor_element_core.specs.AccessBySurvey.{read_by, set_by}

@@ -1,5 +1,6 @@
 // Element access of the C interface: the covered parts of reading and setting an element by a type code.
 #![tactic(auto)]
+
 ghost use Rattle.std.specs.Prelude.{◌≡◌, length};
 ghost use Rattle.processor_soundness.specs.Sound.{sound_by};
 ghost use Rattle.file_type.specs.Table.{of_code};
