@@ -1,9 +1,10 @@
 // Reads tags by line, as new entries, and prints the read request of each in capital hexadecimal, or `refused` and the number.
 #![tactic(auto)]
+
 ghost use Rattle.std.specs.Prelude.{◌≡◌, true, false, ◌≤◌, length};
 ghost use Rattle.tags_stream.specs.Pieces.{rest, held, kept_by};
 
-use libc::{STDIN_FILENO, STDOUT_FILENO};
+use std::io::Read;
 use tags_stream::Line;
 
 // The line that goes on, and whether to read on.
@@ -24,7 +25,7 @@ fn stopped() -> Went
 }
 
 // Answers all of what was read.
-fn answer_all(input: &[u8], line: Line, out: &mut [u8]) -> Went
+fn answer_all(rt: &impl Print, input: &[u8], line: Line, out: &mut [u8]) -> Went
     requires { 64 ≤ length out.old }
     ensures { result.open ≡ true → held (kept_by result.line) ≡ held (rest (kept_by line) input.now) }
 {
@@ -33,7 +34,7 @@ fn answer_all(input: &[u8], line: Line, out: &mut [u8]) -> Went
     while at < input.len() {
         let fed = tags_stream::feed(kept, &input[at..], out);
         let used = fed.used;
-        if !io::write_all(STDOUT_FILENO, &out[..used]) {
+        if rt.write_all(&out[..used]).is_err() {
             return stopped();
         }
         at += fed.taken;
@@ -47,43 +48,37 @@ fn answer_all(input: &[u8], line: Line, out: &mut [u8]) -> Went
 }
 
 // Reads once, and answers what came.
-fn turn(input: &mut [u8], line: Line, out: &mut [u8]) -> Went
+fn turn(rt: &impl Print, from: &mut impl Read, input: &mut [u8], line: Line, out: &mut [u8]) -> Went
     requires { 64 ≤ length out.old }
 {
-    let got = libc::read(STDIN_FILENO, input);
-    if got < 0 {
-        return stopped();
+    match from.read(input) {
+        Err(_) => stopped(),
+        Ok(0) => Went { line, open: false },
+        Ok(n) => answer_all(rt, &input[..n], line, out),
     }
-    let n = io::count(got, input);
-    if n == 0 {
-        return Went { line, open: false };
-    }
-    answer_all(&input[..n], line, out)
 }
 
-// Answers all of the input but a last line that has no newline. Nothing says that input ends, and a proved loop does: it counts its turns
-// down from a number that no run uses up.
-fn answer_input(input: &mut [u8], out: &mut [u8]) -> Line
+// Answers all of the input but a last line that has no newline. Nothing says that input ends, and a proved loop does: it has as many turns as
+// no run uses up.
+fn answer_input(rt: &impl Print, from: &mut impl Read, input: &mut [u8], out: &mut [u8]) -> Line
     requires { 64 ≤ length out.old }
 {
     let mut line = Line::empty();
-    let mut turns = u64::MAX;
-    while turns > 0 {
-        let after = turn(input, line, out);
+    for _ in 0..u64::MAX {
+        let after = turn(rt, from, input, line, out);
         let l = after.line;
         line = l;
         if !after.open {
             return line;
         }
-        turns -= 1;
     }
     line
 }
 
-fn main() {
-    let mut input = io::large_buffer();
+fn main(rt: HostRuntime) {
+    let mut input = [0u8; 65536];
     let mut out = [0u8; 262144];
-    let line = answer_input(&mut input, &mut out);
+    let line = answer_input(&rt, &mut rt.stdin(), &mut input, &mut out);
     let used = tags_stream::finish(line, &mut out);
-    io::write_all(STDOUT_FILENO, &out[..used]);
+    let _ = rt.write_all(&out[..used]);
 }
