@@ -1,5 +1,6 @@
 // Values of the twelve file types into the bytes of one element.
 #![tactic(auto)]
+
 mod set;
 
 ghost use Rattle.element_spec.specs.Encode.{Stores, encoded};
