@@ -1,9 +1,9 @@
 -- The readings of a tag, the kinds of a write, and the answer to one of no kind.
 use Prim.Native.Nat.{ℕ}
-use mathlib.Core.Path.{◌≡◌, refl, sym}
+use mathlib.Core.Path.{◌≡◌, refl}
 use mathlib.Core.Bool.{Bool, true, false, cond}
 use mathlib.Core.List.{List}
-use borrow.Author.Tests.{eq-eqb, ne_eqb}
+use borrow.Author.Tests.{ne_eqb}
 use Rattle.address_spec.specs.declared.Address.{Address}
 use Rattle.address_spec.specs.declared.Parsed.{Parsed}
 use Rattle.address_spec.specs.declared.Parsed.TheVariants as parsed
@@ -12,8 +12,7 @@ use Rattle.address_readings.specs.declared.Reading.TheVariants.{New, Stored}
 use Rattle.address_readings.specs.Readings.{address_in}
 use Rattle.request_spec.specs.declared.Request.TheVariants as request
 use Rattle.request_spec.specs.declared.WriteValue.TheVariants as value
-use Rattle.request_spec.specs.Request.{Asked, refused, request_of, left, on_address, bit_and_count}
-use Rattle.link_requests.specs.declared.kinds.WriteKind.{WriteKind}
+use Rattle.request_spec.specs.Request.{refused, request_of, left, on_address, bit_and_count}
 use Rattle.link_requests.specs.declared.kinds.WriteKind.TheVariants as kind
 use Rattle.link_requests.specs.Kinds.{reading_of, kind_of, unsuited_address, unsuited}
 
