@@ -1,6 +1,6 @@
 -- Values and elements in the numbers of the C interface (slc_link.h). A kind is 0 for a whole number, 1 for float bits, 2 for text, 3 for three
 -- words, 4 for a field.
-use Rattle.std.specs.Prelude.{ℕ, ◌%◌, ◌≡◌, cond, List, eqb, ℤ, pos, length}
+use Rattle.std.specs.Prelude.{ℕ, ◌%◌, ◌≡◌, cond, List, eqb, ℤ, pos}
 use Rattle.base.specs.Outcome.{Outcome, refused, left}
 use Rattle.element_spec.specs.declared.Element.{Element}
 use Rattle.element_spec.specs.declared.Element.TheVariants as element

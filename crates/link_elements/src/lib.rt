@@ -1,5 +1,6 @@
 // The records of the C interface for values and elements: what is to be set and what is read, told in numbers.
 #![tactic(auto)]
+
 ghost use Rattle.std.specs.Prelude.{◌≡◌, length};
 ghost use Rattle.element_spec.specs.Decode.{decoded};
 ghost use Rattle.element_spec.specs.Encode.{encoded};
