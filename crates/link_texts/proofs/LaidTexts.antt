@@ -7,13 +7,12 @@ use native.Mathlib.Omega.{arith}
 use borrow.Author.Tests.{lt-ltb, le-ltb}
 use lib.ListN.{length, take, drop, length-drop}
 use Rattle.base.proofs.Put.{puts_wrote}
-use Rattle.base.specs.Put.{put, Wrote, Puts}
+use Rattle.base.specs.Put.{Wrote, Puts}
 use Rattle.reply.specs.Status.{datalog_entry, reply_datalog}
 use Rattle.reply_part.proofs.Parts.{from_is, data_of_raw, data_of_reply}
-use Rattle.element_text.specs.Text.{written_of, out_of}
 use Rattle.link_texts.specs.declared.SlcWritten.{SlcWritten}
 use Rattle.link_texts.specs.declared.SlcPart.{SlcPart}
-use Rattle.link_texts.specs.WrittenRecords.{written, swapped_record, end_part, part_of, reply_part, Swaps}
+use Rattle.link_texts.specs.WrittenRecords.{written, end_part, part_of, reply_part, Swaps}
 
 module _ (bs l : List ℕ) where
   pub no_room : {r : SlcWritten} → length l < length bs → r ≡ written 6 0 → Swaps bs l r l

@@ -1,6 +1,7 @@
 // The records of the C interface that count what was written to lent memory, and those of the other answers of replies and the client's file
 // directory. `refused` is 0, or the number of the question that was answered with no.
 #![tactic(auto)]
+
 ghost use Rattle.std.specs.Prelude.{◌≡◌, ◌≤◌, length};
 ghost use Rattle.link_texts.specs.WrittenRecords.{swapped_record, dotted_record, message_record, status_record, listed_record, size_record, end_part, part_of, reply_part, written, Swaps};
 
