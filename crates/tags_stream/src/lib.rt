@@ -1,5 +1,6 @@
 // What the program `tags` does, as functions on slices: the input comes in pieces, cut anyhow, and memory is bounded.
 #![tactic(auto)]
+
 ghost use Rattle.std.specs.Prelude.{◌≡◌, [], ◌+◌, ◌*◌, ◌≤◌, length};
 ghost use Rattle.tags_stream.specs.Pieces.{keeping, Feeds, Finishes};
 ghost use Rattle.tags_stream.specs.FeedSteps.{Stepped, Ran};

@@ -12,4 +12,4 @@ pub keep-requires : goal.keep-requires
 keep-requires c = search (part_most, rules)
 
 pub returns : goal.returns
-returns c = search (feeds, length_unmapped, rules)
+returns c = search (feeds, rules)

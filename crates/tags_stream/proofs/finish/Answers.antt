@@ -15,4 +15,4 @@ pub slice_bounds-answer-end : goal.slice_bounds-answer-end
 slice_bounds-answer-end c = search (counts, lent_fits, length_unmapped, rules)
 
 pub returns : goal.returns
-returns c = search (finish_answer, length_unmapped, rules)
+returns c = search (finish_answer, rules)

@@ -1,8 +1,4 @@
 use borrow.Author.Rules.{rules}
-use Prim.Native.Nat.{◌*◌, ◌-◌, ◌≤◌}
-use mathlib.Core.Path.{◌≡◌}
-use lib.ListN.{length, take, drop}
-use Rattle.tags_stream.specs.FeedSteps.{Onward}
 use Rattle.tags_stream.proofs.Onward.{onward_start, run_turn, run_done}
 use Rattle.tags_stream.proofs.run.Goals as goal
 

@@ -1,9 +1,7 @@
-use borrow.Author.Rules.{rules}
 use Prim.Native.Nat.{◌*◌, ◌-◌, ◌≤◌}
 use mathlib.Core.Path.{◌≡◌}
 use lib.ListN.{length, take, drop}
 use Rattle.tags_stream.specs.FeedSteps.{Onward}
-use Rattle.tags_stream.proofs.Onward.{onward_start, run_turn, run_done}
 use Rattle.tags_stream.proofs.run.Given as goal
 
 abbrev pub invariant-loop-i : goal.invariant-loop-i
