@@ -1,5 +1,4 @@
-// The processor's calls for programs. Covered code can't lend a table of records, so here it is an array by value: `processor::pccc_on` answers
-// a command, and these build a processor and reach its elements.
+// The processor's calls for programs, with the table as an array by value: `processor::pccc_on` answers a command, and these build a processor and reach its elements.
 #![tactic(auto)]
 
 ghost use Rattle.std.specs.Prelude.{◌≡◌, length, replicate};
