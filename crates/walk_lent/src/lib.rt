@@ -1,2 +1,2 @@
-// No code and no law: the toolchain itself proves a local that is lent by `&mut` to a call.
+// No code: `proofs/Lent.antt` has the law of a local that is lent by `&mut` to one call.
 #![tactic(auto)]
