@@ -1,3 +1,3 @@
-pub mod Answering
+pub mod Calling
 pub mod Coding
 pub mod Contract
