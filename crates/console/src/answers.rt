@@ -32,25 +32,30 @@ pub enum Answer {
     Text(usize),
 }
 
-fn say_error(why: u8, out: &mut [u8], p: Pending) -> Pending {
+fn say_error(rt: &impl Print, why: u8, out: &mut [u8], p: Pending) -> Pending {
     let words = b"- line call fields kind hex number";
-    crate::answers::error(out, p, text::field(words, why as usize))
+    crate::answers::error(rt, out, p, text::field(words, why as usize))
 }
 
-fn say_text(text: &[u8], out: &mut [u8], p: Pending) -> Pending {
-    let a = crate::output::plain(out, p, b"ok");
-    let b = crate::output::plain(out, a, text);
-    crate::output::plain(out, b, b"\n")
+fn say_text(rt: &impl Print, text: &[u8], out: &mut [u8], p: Pending) -> Pending {
+    let a = crate::output::plain(rt, out, p, b"ok");
+    let b = crate::output::plain(rt, out, a, text);
+    crate::output::plain(rt, out, b, b"\n")
 }
 
 // An answer whose bytes or text stand in `memory`.
-pub fn say(answer: Answer, memory: &[u8], out: &mut [u8], p: Pending) -> Pending {
+pub fn say(rt: &impl Print, answer: Answer, memory: &[u8], out: &mut [u8], p: Pending) -> Pending {
     match answer {
-        Answer::Error(why) => say_error(why, out, p),
-        Answer::Refused(n) => crate::answers::refused(out, p, n),
-        Answer::Done => crate::output::plain(out, p, b"ok\n"),
-        Answer::Nothing => crate::output::plain(out, p, b"ok none\n"),
-        Answer::Bytes(n) => crate::answers::ok_bytes(out, p, &memory[..text::within(n, memory)]),
-        Answer::Text(n) => say_text(&memory[..text::within(n, memory)], out, p),
+        Answer::Error(why) => say_error(rt, why, out, p),
+        Answer::Refused(n) => crate::answers::refused(rt, out, p, n),
+        Answer::Done => crate::output::plain(rt, out, p, b"ok\n"),
+        Answer::Nothing => crate::output::plain(rt, out, p, b"ok none\n"),
+        Answer::Bytes(n) => crate::answers::ok_bytes(
+            rt,
+            out,
+            p,
+            &memory[..text::within(n, memory)],
+        ),
+        Answer::Text(n) => say_text(rt, &memory[..text::within(n, memory)], out, p),
     }
 }

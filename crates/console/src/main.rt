@@ -1,5 +1,6 @@
 // Answers the lines of oracle/PROTOCOL.md: one request a line on standard input, one answer a line on standard output.
 #![tactic(auto)]
+
 mod addresses;
 mod answers;
 mod directories;
@@ -17,7 +18,7 @@ ghost use Rattle.std.specs.Prelude.{◌<◌, ◌≤◌, length};
 use crate::answers::Answer;
 use crate::lines::{Area, Args};
 use crate::output::Pending;
-use libc::STDIN_FILENO;
+use std::io::Read;
 
 // The answer to a call, whose line is this. The bytes of its fields stand in `space`, the answer in `memory`, the simulated processor in `store`.
 fn call(a: Args, line: &[u8], space: &[u8], memory: &mut [u8], store: &mut [u8]) -> Answer {
@@ -60,13 +61,14 @@ fn is_echoed(line: &[u8]) -> bool {
     line[0] == b'#'
 }
 
-fn echo(line: &[u8], out: &mut [u8], p: Pending) -> Pending {
-    let q = crate::output::plain(out, p, line);
-    crate::output::plain(out, q, b"\n")
+fn echo(rt: &impl Print, line: &[u8], out: &mut [u8], p: Pending) -> Pending {
+    let q = crate::output::plain(rt, out, p, line);
+    crate::output::plain(rt, out, q, b"\n")
 }
 
 // The answer to a line that is no comment.
 fn reply(
+    rt: &impl Print,
     line: &[u8],
     space: &mut [u8],
     memory: &mut [u8],
@@ -76,21 +78,22 @@ fn reply(
 ) -> Pending {
     let a = crate::lines::read(line, space);
     if a.why != 0 {
-        return crate::answers::say(Answer::Error(a.why), memory, out, p);
+        return crate::answers::say(rt, Answer::Error(a.why), memory, out, p);
     }
     let area = a.area;
     match area {
-        Area::Listing => crate::directories::say_dir(a, space, out, p),
+        Area::Listing => crate::directories::say_dir(rt, a, space, out, p),
         _ => {
             let n = text::within(a.start, line);
             let answer = call(a, &line[n..], space, memory, store);
-            crate::answers::say(answer, memory, out, p)
+            crate::answers::say(rt, answer, memory, out, p)
         }
     }
 }
 
 // The answer to a line, which is the first `kept` bytes; where it fills the memory that lines have, it was longer than a line may be.
 fn answer_line(
+    rt: &impl Print,
     line: &[u8],
     kept: usize,
     space: &mut [u8],
@@ -100,13 +103,13 @@ fn answer_line(
     p: Pending,
 ) -> Pending {
     if line.len() <= kept {
-        return crate::answers::say(Answer::Error(crate::answers::LINE), memory, out, p);
+        return crate::answers::say(rt, Answer::Error(crate::answers::LINE), memory, out, p);
     }
     let n = text::within(kept, line);
     if is_echoed(&line[..n]) {
-        return echo(&line[..n], out, p);
+        return echo(rt, &line[..n], out, p);
     }
-    reply(&line[..n], space, memory, store, out, p)
+    reply(rt, &line[..n], space, memory, store, out, p)
 }
 
 // The place in the input, how many bytes of the line are kept, and whether the line has ended.
@@ -163,6 +166,7 @@ struct State {
 
 // Answers a line that has ended.
 fn ended(
+    rt: &impl Print,
     line: &[u8],
     t: Taken,
     space: &mut [u8],
@@ -182,12 +186,13 @@ fn ended(
     }
     State {
         kept: 0,
-        said: answer_line(line, t.kept, space, memory, store, out, p),
+        said: answer_line(rt, line, t.kept, space, memory, store, out, p),
     }
 }
 
 // Answers all lines that end in what was read.
 fn answer_all(
+    rt: &impl Print,
     input: &[u8],
     line: &mut [u8],
     s: State,
@@ -204,7 +209,7 @@ fn answer_all(
     while at < input.len() {
         let t = take_line(input, at, line, state.kept);
         at = t.at;
-        state = ended(line, t, space, memory, store, out, state.said);
+        state = ended(rt, line, t, space, memory, store, out, state.said);
     }
     state
 }
@@ -215,8 +220,11 @@ struct Went {
     open: bool,
 }
 
-// Reads once, answers, and writes out what was said; at the end of input the last line is answered.
+// Reads once, answers, and writes out what was said; at the end of input the last line is answered. A line that was cut by a read that failed
+// has no answer.
 fn turn(
+    rt: &impl Print,
+    from: &mut impl Read,
     input: &mut [u8],
     line: &mut [u8],
     s: State,
@@ -228,28 +236,35 @@ fn turn(
     requires { s.kept ≤ length line.old }
     ensures { result.state.kept ≤ length line.old }
 {
-    let got = libc::read(STDIN_FILENO, input);
-    let n = io::count(got, input);
-    if n == 0 {
-        finish(line, s, space, memory, store, out);
-        return Went {
+    match from.read(input) {
+        Err(_) => Went {
             state: s,
             open: false,
-        };
-    }
-    let t = answer_all(&input[..n], line, s, space, memory, store, out);
-    let q = crate::output::flush(out, t.said);
-    Went {
-        state: State {
-            kept: t.kept,
-            said: q,
         },
-        open: q.good,
+        Ok(0) => {
+            finish(rt, line, s, space, memory, store, out);
+            Went {
+                state: s,
+                open: false,
+            }
+        }
+        Ok(n) => {
+            let t = answer_all(rt, &input[..n], line, s, space, memory, store, out);
+            let q = crate::output::flush(rt, out, t.said);
+            Went {
+                state: State {
+                    kept: t.kept,
+                    said: q,
+                },
+                open: q.good,
+            }
+        }
     }
 }
 
 // The last line, where it has no newline.
 fn finish(
+    rt: &impl Print,
     line: &[u8],
     s: State,
     space: &mut [u8],
@@ -260,11 +275,13 @@ fn finish(
     if s.kept == 0 {
         return;
     }
-    let q = answer_line(line, s.kept, space, memory, store, out, s.said);
-    crate::output::flush(out, q);
+    let q = answer_line(rt, line, s.kept, space, memory, store, out, s.said);
+    crate::output::flush(rt, out, q);
 }
 
 fn answer_input(
+    rt: &impl Print,
+    from: &mut impl Read,
     input: &mut [u8],
     line: &mut [u8],
     space: &mut [u8],
@@ -276,19 +293,17 @@ fn answer_input(
         kept: 0,
         said: crate::output::start(),
     };
-    let mut turns = u64::MAX;
-    while turns > 0 {
-        let after = turn(input, line, s, space, memory, store, out);
+    for _ in 0..u64::MAX {
+        let after = turn(rt, from, input, line, s, space, memory, store, out);
         s = after.state;
         if !after.open {
             return;
         }
-        turns -= 1;
     }
 }
 
-fn main() {
-    let mut input = io::large_buffer();
+fn main(rt: HostRuntime) {
+    let mut input = [0u8; 65536];
     let mut line = [0u8; 262145];
     // The bytes of the fields of a line.
     let mut space = [0u8; 131072];
@@ -296,6 +311,8 @@ fn main() {
     let mut store = [0u8; 83848];
     let mut out = [0u8; 65536];
     answer_input(
+        &rt,
+        &mut rt.stdin(),
         &mut input,
         &mut line,
         &mut space,

@@ -5,8 +5,6 @@ ghost use Rattle.text.specs.Hex.{hex as hex_hex};
 ghost use Rattle.decimal.specs.Decimals.{decimal};
 ghost use Rattle.console.specs.Said.{Said};
 
-use libc::STDOUT_FILENO;
-
 // How many bytes of the buffer wait, and whether no write has failed so far. After one that failed nothing is written.
 #[derive(Clone, Copy)]
 pub struct Pending {
@@ -22,32 +20,32 @@ pub fn start() -> Pending
 }
 
 // Writes bytes out.
-fn write(good: bool, bytes: &[u8]) -> bool
+fn write(rt: &impl Print, good: bool, bytes: &[u8]) -> bool
     ensures { good ≡ false → result ≡ false }
 {
     if good {
-        return io::write_all(STDOUT_FILENO, bytes);
+        return rt.write_all(bytes).is_ok();
     }
     false
 }
 
 // Writes out what waits.
-pub fn flush(out: &[u8], p: Pending) -> Pending
+pub fn flush(rt: &impl Print, out: &[u8], p: Pending) -> Pending
     ensures { (result.at ≡ 0) × (p.good ≡ false → result.good ≡ false) }
 {
     let n = text::within(p.at, out);
     Pending {
         at: 0,
-        good: write(p.good, &out[..n]),
+        good: write(rt, p.good, &out[..n]),
     }
 }
 
 // Bytes for which there is no room behind what waits.
-fn say_anew(out: &mut [u8], p: Pending, bytes: &[u8]) -> Pending
+fn say_anew(rt: &impl Print, out: &mut [u8], p: Pending, bytes: &[u8]) -> Pending
     requires { length out.old < p.at + length bytes.now }
     ensures { Said out.old p bytes.now result out.new }
 {
-    let q = flush(out, p);
+    let q = flush(rt, out, p);
     let good = q.good;
     if bytes.len() <= out.len() {
         return Pending {
@@ -57,20 +55,20 @@ fn say_anew(out: &mut [u8], p: Pending, bytes: &[u8]) -> Pending
     }
     Pending {
         at: 0,
-        good: write(good, bytes),
+        good: write(rt, good, bytes),
     }
 }
 
 // Bytes as they are.
-pub fn plain(out: &mut [u8], p: Pending, bytes: &[u8]) -> Pending
+pub fn plain(rt: &impl Print, out: &mut [u8], p: Pending, bytes: &[u8]) -> Pending
     ensures { Said out.old p bytes.now result out.new }
 {
     let at = p.at;
     if out.len() < at {
-        return say_anew(out, p, bytes);
+        return say_anew(rt, out, p, bytes);
     }
     if out.len() - at < bytes.len() {
-        return say_anew(out, p, bytes);
+        return say_anew(rt, out, p, bytes);
     }
     Pending {
         at: base::put_all(out, at, bytes),
@@ -78,13 +76,13 @@ pub fn plain(out: &mut [u8], p: Pending, bytes: &[u8]) -> Pending
     }
 }
 
-fn hex_piece(out: &mut [u8], p: Pending, bytes: &[u8]) -> Pending
+fn hex_piece(rt: &impl Print, out: &mut [u8], p: Pending, bytes: &[u8]) -> Pending
     requires { length bytes.now ≤ 256 }
     ensures { Said out.old p (hex_hex bytes.now) result out.new }
 {
     let mut digits = [0u8; 512];
     let n = text::put_hex(&mut digits, 0, bytes);
-    plain(out, p, &digits[..n])
+    plain(rt, out, p, &digits[..n])
 }
 
 // Where the next piece ends.
@@ -99,23 +97,23 @@ fn piece_end(i: usize, end: usize) -> usize
 }
 
 // Two digits for each byte.
-pub fn hex(out: &mut [u8], p: Pending, bytes: &[u8]) -> Pending
+pub fn hex(rt: &impl Print, out: &mut [u8], p: Pending, bytes: &[u8]) -> Pending
     ensures { Said out.old p (hex_hex bytes.now) result out.new }
 {
-    let mut q = plain(out, p, b"");
+    let mut q = plain(rt, out, p, b"");
     let mut i = 0;
     while i < bytes.len() {
         let j = piece_end(i, bytes.len());
-        q = hex_piece(out, q, &bytes[i..j]);
+        q = hex_piece(rt, out, q, &bytes[i..j]);
         i = j;
     }
     q
 }
 
-pub fn number(out: &mut [u8], p: Pending, n: u64) -> Pending
+pub fn number(rt: &impl Print, out: &mut [u8], p: Pending, n: u64) -> Pending
     ensures { Said out.old p (decimal n) result out.new }
 {
     let mut digits = [0u8; 20];
     let k = decimal::put_decimal(&mut digits, 0, n);
-    plain(out, p, &digits[..k])
+    plain(rt, out, p, &digits[..k])
 }

@@ -5,35 +5,42 @@ use crate::lines::Args;
 use crate::output::Pending;
 use directory::Listed;
 
-pub fn say_dir(a: Args, space: &[u8], out: &mut [u8], p: Pending) -> Pending {
+pub fn say_dir(rt: &impl Print, a: Args, space: &[u8], out: &mut [u8], p: Pending) -> Pending {
     let bytes = crate::lines::part(space, a, 2);
     if bytes.len() <= 512 {
-        return few(a, bytes, out, p);
+        return few(rt, a, bytes, out, p);
     }
-    many(a, bytes, out, p)
+    many(rt, a, bytes, out, p)
 }
 
 // No directory has more files than bytes, so these have room for all.
-fn few(a: Args, bytes: &[u8], out: &mut [u8], p: Pending) -> Pending {
+fn few(rt: &impl Print, a: Args, bytes: &[u8], out: &mut [u8], p: Pending) -> Pending {
     let none = [0u32; 4];
     let mut files = [none; 512];
-    parsed(a, bytes, &mut files, out, p)
+    parsed(rt, a, bytes, &mut files, out, p)
 }
 
-fn many(a: Args, bytes: &[u8], out: &mut [u8], p: Pending) -> Pending {
+fn many(rt: &impl Print, a: Args, bytes: &[u8], out: &mut [u8], p: Pending) -> Pending {
     let none = [0u32; 4];
     let mut files = [none; 65535];
-    parsed(a, bytes, &mut files, out, p)
+    parsed(rt, a, bytes, &mut files, out, p)
 }
 
 // The output has `room` files.
-fn parsed(a: Args, bytes: &[u8], files: &mut [[u32; 4]], out: &mut [u8], p: Pending) -> Pending {
+fn parsed(
+    rt: &impl Print,
+    a: Args,
+    bytes: &[u8],
+    files: &mut [[u32; 4]],
+    out: &mut [u8],
+    p: Pending,
+) -> Pending {
     let n = within(a.room, files);
     let first = crate::lines::number(a, 0) as usize;
     let size = crate::lines::number(a, 1) as usize;
     match directory::parse_file_directory(first, size, bytes, &mut files[..n]) {
-        Listed::Refused(k) => crate::answers::refused(out, p, k),
-        Listed::Files(m) => listed(files, m, out, p),
+        Listed::Refused(k) => crate::answers::refused(rt, out, p, k),
+        Listed::Files(m) => listed(rt, files, m, out, p),
     }
 }
 
@@ -47,26 +54,26 @@ fn within(n: usize, files: &[[u32; 4]]) -> usize
     files.len()
 }
 
-fn listed(files: &[[u32; 4]], n: usize, out: &mut [u8], p: Pending) -> Pending {
+fn listed(rt: &impl Print, files: &[[u32; 4]], n: usize, out: &mut [u8], p: Pending) -> Pending {
     let k = base::least(n, files.len());
-    let a = crate::output::plain(out, p, b"ok ");
-    let mut q = crate::output::number(out, a, k as u64);
+    let a = crate::output::plain(rt, out, p, b"ok ");
+    let mut q = crate::output::number(rt, out, a, k as u64);
     let mut i = 0;
     while i < k {
-        q = file(files[i], out, q);
+        q = file(rt, files[i], out, q);
         i += 1;
     }
-    crate::output::plain(out, q, b"\n")
+    crate::output::plain(rt, out, q, b"\n")
 }
 
-fn file(f: [u32; 4], out: &mut [u8], p: Pending) -> Pending {
+fn file(rt: &impl Print, f: [u32; 4], out: &mut [u8], p: Pending) -> Pending {
     let mut text = [0u8; 64];
-    say_row(f, &mut text, out, p)
+    say_row(rt, f, &mut text, out, p)
 }
 
-fn say_row(f: [u32; 4], text: &mut [u8], out: &mut [u8], p: Pending) -> Pending {
+fn say_row(rt: &impl Print, f: [u32; 4], text: &mut [u8], out: &mut [u8], p: Pending) -> Pending {
     let k = text::within(row(f, text), text);
-    crate::output::plain(out, p, &text[..k])
+    crate::output::plain(rt, out, p, &text[..k])
 }
 
 fn row(f: [u32; 4], text: &mut [u8]) -> usize {

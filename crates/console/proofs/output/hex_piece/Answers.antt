@@ -3,10 +3,10 @@ use Rattle.console.proofs.output.Saying.{laid_fits, laid_counts, laid_said, hex_
 use Rattle.console.proofs.output.hex_piece.Goals as goal
 
 pub slice_bounds-digits-end : goal.slice_bounds-digits-end
-slice_bounds-digits-end c = search (laid_fits, hex_small, rules)
+slice_bounds-digits-end g c = search (laid_fits, hex_small, rules)
 
 pub slice_bounds-plain-end : goal.slice_bounds-plain-end
-slice_bounds-plain-end c = search (laid_counts, hex_small, rules)
+slice_bounds-plain-end g c = search (laid_counts, hex_small, rules)
 
 pub returns : goal.returns
-returns c = search (laid_said, hex_small, rules)
+returns g c = search (laid_said, hex_small, rules)

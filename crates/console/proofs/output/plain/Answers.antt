@@ -3,4 +3,4 @@ use Rattle.console.proofs.output.Saying.{said_room}
 use Rattle.console.proofs.output.plain.Goals as goal
 
 pub returns : goal.returns
-returns c = search (said_room, rules)
+returns g c = search (said_room, rules)

@@ -3,4 +3,4 @@ use Rattle.console.proofs.output.Saying.{not_both}
 use Rattle.console.proofs.output.write.Goals as goal
 
 pub returns-then-good : goal.returns-then-good
-returns-then-good c = search (not_both, rules)
+returns-then-good g c = search (not_both, rules)

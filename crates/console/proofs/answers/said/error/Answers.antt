@@ -3,4 +3,4 @@ use Rattle.console.proofs.output.Saying.{said_error}
 use Rattle.console.proofs.answers.said.error.Goals as goal
 
 pub returns : goal.returns
-returns c = search (said_error, rules)
+returns g c = search (said_error, rules)

@@ -3,4 +3,4 @@ use Rattle.console.proofs.output.Saying.{said_bytes}
 use Rattle.console.proofs.answers.said.ok_bytes.Goals as goal
 
 pub returns : goal.returns
-returns c = search (said_bytes, rules)
+returns g c = search (said_bytes, rules)

@@ -3,4 +3,4 @@ use Rattle.console.proofs.output.Saying.{said_refused}
 use Rattle.console.proofs.answers.said.refused.Goals as goal
 
 pub returns : goal.returns
-returns c = search (said_refused, rules)
+returns g c = search (said_refused, rules)

@@ -1,6 +1,3 @@
-use Prim.Native.Nat.{◌-◌, ◌≤◌}
-use mathlib.Core.Path.{◌≡◌}
-use lib.ListN.{length}
 use borrow.Author.Rules.{rules}
 use Rattle.file_type.proofs.FieldNames.{bits_within}
 use Rattle.console.proofs.elements.shown.named_bits.Goals as goal

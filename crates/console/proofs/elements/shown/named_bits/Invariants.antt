@@ -1,8 +1,6 @@
 use Prim.Native.Nat.{◌-◌, ◌≤◌}
 use mathlib.Core.Path.{◌≡◌}
 use lib.ListN.{length}
-use borrow.Author.Rules.{rules}
-use Rattle.file_type.proofs.FieldNames.{bits_within}
 use Rattle.console.proofs.elements.shown.named_bits.Given as goal
 
 abbrev pub invariant-loop-i : goal.invariant-loop-i

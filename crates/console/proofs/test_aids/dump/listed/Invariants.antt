@@ -1,7 +1,5 @@
-use Prim.Native.Nat.{◌-◌, ◌≤◌}
 use mathlib.Core.Path.{◌≡◌}
 use lib.ListN.{length}
-use borrow.Author.Rules.{rules}
 use Rattle.console.proofs.test_aids.dump.listed.Given as goal
 
 abbrev pub invariant-loop-left : goal.invariant-loop-left
