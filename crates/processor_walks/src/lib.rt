@@ -1,2 +1,2 @@
-// No code and no laws of its own: each call that is lent the table is proved in its own crate, by what it calls.
+// No code: `proofs/` has the law of a call that is lent the table and has a branch of its own for the directory, over what its parts say.
 #![tactic(auto)]
