@@ -220,8 +220,7 @@ struct Went {
     open: bool,
 }
 
-// Reads once, answers, and writes out what was said; at the end of input the last line is answered. A line that was cut by a read that failed
-// has no answer.
+// Reads once, answers, and writes out what was said; at the end of input, and where a read fails, the last line is answered.
 fn turn(
     rt: &impl Print,
     from: &mut impl Read,
@@ -237,11 +236,7 @@ fn turn(
     ensures { result.state.kept ≤ length line.old }
 {
     match from.read(input) {
-        Err(_) => Went {
-            state: s,
-            open: false,
-        },
-        Ok(0) => {
+        Err(_) | Ok(0) => {
             finish(rt, line, s, space, memory, store, out);
             Went {
                 state: s,
