@@ -1,0 +1,9 @@
+use Rattle.reply_element.proofs.Bits.{bit_negative, bit_positive}
+use borrow.Author.Rules.{rules}
+use Rattle.reply_element.proofs.bit.get_bit.Goals as goal
+
+pub returns-then-p : goal.returns-then-p
+returns-then-p c = search (bit_negative, rules)
+
+pub returns : goal.returns
+returns c = search (bit_positive, rules)

@@ -1,0 +1,18 @@
+use Rattle.reply_element.proofs.Elements.{no_text_room, pairs_fit, text_within, text_counts, line_read}
+use borrow.Author.Rules.{rules}
+use Rattle.reply_element.proofs.line.Goals as goal
+
+pub returns-then-out-lt82 : goal.returns-then-out-lt82
+returns-then-out-lt82 c = search (no_text_room, rules)
+
+pub swap_into-there-requires : goal.swap_into-there-requires
+swap_into-there-requires c = search (pairs_fit, rules)
+
+pub slice_bounds-pairs-end : goal.slice_bounds-pairs-end
+slice_bounds-pairs-end c = search (text_within, rules)
+
+pub slice_bounds-put_all-end : goal.slice_bounds-put_all-end
+slice_bounds-put_all-end c = search (text_counts, rules)
+
+pub returns : goal.returns
+returns c = search (line_read, rules)

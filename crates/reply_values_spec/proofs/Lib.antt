@@ -1,0 +1,3 @@
+pub mod ValueRows
+pub mod InParts
+pub mod ReplyAnswers
