@@ -59,9 +59,6 @@ pub fn file_directory_size_request(
     ))
 }
 
-// The farthest word of the file directory that a request can name.
-const MOST_OFFSET: usize = 65535;
-
 // The request for `size` bytes of the file directory from the word `offset` on. Refused with 26 and 6.
 pub fn file_directory_read_request(
     file_type: u8,
@@ -73,7 +70,7 @@ pub fn file_directory_read_request(
 ) -> Message
     ensures { Builds (directory_read file_type offset size q sequence out.old) out.old result out.new }
 {
-    if MOST_OFFSET < offset {
+    if 65535 < offset {
         return Message::Refused(26);
     }
     if out.len() < 27 {
