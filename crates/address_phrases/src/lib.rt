@@ -2,7 +2,6 @@
 #![tactic(auto)]
 
 ghost use Rattle.std.specs.Prelude.{◌≡◌, [], ◌∷◌, drop};
-ghost use Rattle.std.proofs.Math.Option.{some};
 ghost use Rattle.file_type.specs.declared.FileType.TheVariants.{C, T, L, F, B, N};
 ghost use Rattle.parser_spec.specs.Characters.{utf8, first_of};
 ghost use Rattle.parser_spec.specs.Parts.{ended};
@@ -166,7 +165,7 @@ pub fn present(m: Maybe) -> bool
 
 // The address, if nothing is left of the tag.
 pub fn found(c: Cur, tag: &[u8], a: Address) -> Found
-    ensures { result ≡ found_of (ended (some (a, drop c.i tag.now))) }
+    ensures { result ≡ found_of (ended (Some (a, drop c.i tag.now))) }
 {
     if !c.done(tag) {
         return Found::No;

@@ -1,8 +1,8 @@
 -- The text with a full stop is accepted as a new entry and names the same address.
+use Rattle.std.specs.Prelude.{Option, None, Some}
 use Prim.Native.Nat.{ℕ, ◌+◌, ◌-◌, ◌≤◌}
 use mathlib.Core.Path.{◌≡◌, refl, ap, sym, subst, ◌∙◌}
 use mathlib.Core.List.{List, [], ◌∷◌, ◌++◌}
-use mathlib.Core.Option.{Option, none, some}
 use mathlib.Core.Bool.{Bool, true, false, ◌&&◌, cond}
 use native.Mathlib.Omega.{arith}
 use borrow.Author.Tests.{leb-true, le-leb}
@@ -31,18 +31,18 @@ short tag x = go (leb (length tag) 255) refl (well_formed tag)
     go false e b q = refused q
 
 -- ---- an accepted address of a timer or counter has their form
-pub of_timer_lem : (tag : List ℕ) (x : Address) → address_of tag ≡ parsed.Is x → timed x.file_type ≡ true → ct utf8 separates tag ≡ some x
+pub of_timer_lem : (tag : List ℕ) (x : Address) → address_of tag ≡ parsed.Is x → timed x.file_type ≡ true → ct utf8 separates tag ≡ Some x
 unfolding address_of form_of or_try
 of_timer_lem tag x e h = go (leb (length tag) 255 && well_formed tag) (ct utf8 separates tag) refl (others tag) refl e
   where
-    go : (t : Bool) (y : Option Address) → ct utf8 separates tag ≡ y → (z : Option Address) → others tag ≡ z → cond t (accepted (or_try y z)) (parsed.Refused 1) ≡ parsed.Is x → ct utf8 separates tag ≡ some x
+    go : (t : Bool) (y : Option Address) → ct utf8 separates tag ≡ y → (z : Option Address) → others tag ≡ z → cond t (accepted (or_try y z)) (parsed.Refused 1) ≡ parsed.Is x → ct utf8 separates tag ≡ Some x
     go false y f z g q = refused q
-    go true none f none g q = refused q
-    go true none f (some w) g q =
+    go true None f None g q = refused q
+    go true None f (Some w) g q =
         let v : w ≡ x = cc in
-        let n : timed x.file_type ≡ false = others_untimed tag x (g ∙ ap some v) in
+        let n : timed x.file_type ≡ false = others_untimed tag x (g ∙ ap Some v) in
         absurd (let k : true ≡ false = sym h ∙ n in let m : ◌≡◌ {A = ℕ} 0 1 = cc in omega arith)
-    go true (some w) f z g q = let v : w ≡ x = cc in f ∙ ap some v
+    go true (Some w) f z g q = let v : w ≡ x = cc in f ∙ ap Some v
 
 -- ---- its text with a full stop
 module _ {tag : List ℕ} {x : Address} (t : Timer tag x []) where

@@ -1,8 +1,8 @@
 -- The two readings: the new one is reading with the test of the separator, it takes what the stored one takes less the retired spellings, and of other letters than C and T they are the same.
+use Rattle.std.specs.Prelude.{Option, None, Some}
 use Prim.Native.Nat.{ℕ}
 use mathlib.Core.Path.{◌≡◌, refl, ap, sym, ◌∙◌}
 use mathlib.Core.List.{List}
-use mathlib.Core.Option.{Option, none, some}
 use mathlib.Core.Bool.{Bool, true, false, ◌&&◌, not, cond}
 use lib.Dec.{leb}
 use lib.ListN.{length}
@@ -22,20 +22,20 @@ use Rattle.address_readings.proofs.Separators.{ct_plain}
 use Rattle.address_readings.proofs.CtLetters.{ct_letter, letter_is, no_form, others, no_others, ct_timed, others_untimed}
 
 -- ---- a tag of the form of C and T is of no other
-ct_only : (tag : List ℕ) (x : Address) → ct utf8 separates tag ≡ some x → others tag ≡ none
+ct_only : (tag : List ℕ) (x : Address) → ct utf8 separates tag ≡ Some x → others tag ≡ None
 unfolding ct
-ct_only tag x e = held_of {P = λ (x : Address) (r : List ℕ). others tag ≡ none} (and_next (letter_is tag) λ t r h. and_any _ λ f r. and_any _ λ y r. and_any _ λ _ r. that (no_others h)) (whole_some _ tag x e)
+ct_only tag x e = held_of {P = λ (x : Address) (r : List ℕ). others tag ≡ None} (and_next (letter_is tag) λ t r h. and_any _ λ f r. and_any _ λ y r. and_any _ λ _ r. that (no_others h)) (whole_some _ tag x e)
 
 -- ---- the new reading is that with the test
 pub by_test_lem : ByTest
 unfolding address_in retired address_of by_test form_of or_try
 by_test_lem tag = go (leb (length tag) 255 && well_formed tag) (ct utf8 separates tag) refl (others tag) refl
   where
-    other : (b : Bool) (z : Address) → parsed.Is z ≡ by_forms (some z) (or_try (cond {A = Option Address} b none none) (some z))
+    other : (b : Bool) (z : Address) → parsed.Is z ≡ by_forms (Some z) (or_try (cond {A = Option Address} b None None) (Some z))
     other true z = refl
     other false z = refl
 
-    this : (b : Bool) (z : Address) → cond (not b) (parsed.Refused 39) (parsed.Is z) ≡ by_forms (some z) (or_try (cond b (some z) none) none)
+    this : (b : Bool) (z : Address) → cond (not b) (parsed.Refused 39) (parsed.Is z) ≡ by_forms (Some z) (or_try (cond b (Some z) None) None)
     this true z = refl
     this false z = refl
 
@@ -43,9 +43,9 @@ by_test_lem tag = go (leb (length tag) 255 && well_formed tag) (ct utf8 separate
         → cond (of_timer (cond t (accepted (or_try x y)) (parsed.Refused 1)) && not (plainly (separator tag))) (parsed.Refused 39) (cond t (accepted (or_try x y)) (parsed.Refused 1))
         ≡ cond t (by_forms (or_try x y) (or_try (ct utf8 plain tag) y)) (parsed.Refused 1)
     go false x e y f = refl
-    go true none e none f = refl
-    go true none e (some z) f = rw (others_untimed tag z f, ct_plain tag, e) (other (plainly (separator tag)) z)
-    go true (some z) e y f = rw (ct_timed tag z separates e, ct_plain tag, e, sym f ∙ ct_only tag z e) (this (plainly (separator tag)) z)
+    go true None e None f = refl
+    go true None e (Some z) f = rw (others_untimed tag z f, ct_plain tag, e) (other (plainly (separator tag)) z)
+    go true (Some z) e y f = rw (ct_timed tag z separates e, ct_plain tag, e, sym f ∙ ct_only tag z e) (this (plainly (separator tag)) z)
 
 -- ---- what the new reading takes
 pub less_retired : LessRetired
@@ -64,18 +64,18 @@ taken Stored tag x e = e
 taken New tag x e = ((less_retired tag x).0 e).0
 
 -- ---- what isn't a timer's or counter's
-ct_none : (tag : List ℕ) → ct_letter tag ≡ none → ct utf8 separates tag ≡ none
+ct_none : (tag : List ℕ) → ct_letter tag ≡ None → ct utf8 separates tag ≡ None
 unfolding ct whole
 ct_none tag e = no_form (stop _ e)
 
-untimed : (tag : List ℕ) → ct_letter tag ≡ none → of_timer (address_of tag) ≡ false
+untimed : (tag : List ℕ) → ct_letter tag ≡ None → of_timer (address_of tag) ≡ false
 unfolding address_of form_of or_try
 untimed tag e = rw (ct_none tag e) (go (leb (length tag) 255 && well_formed tag) (others tag) refl)
   where
     go : (t : Bool) (y : Option Address) → others tag ≡ y → of_timer (cond t (accepted y) (parsed.Refused 1)) ≡ false
     go false y f = refl
-    go true none f = refl
-    go true (some z) f = others_untimed tag z f
+    go true None f = refl
+    go true (Some z) f = others_untimed tag z f
 
 pub no_difference : NoDifference
 unfolding address_in retired

@@ -1,9 +1,9 @@
 -- U+0131 is an I and U+017F is an S where a file letter is read: the same answer, with a kept text that is one byte longer.
+use Rattle.std.specs.Prelude.{Option, None, Some}
 use Prim.Native.Nat.{ℕ, suc, ◌≤◌}
 use Prim.Native.Char.{Char, code}
 use mathlib.Core.Path.{◌≡◌, refl, ap, sym, subst, ◌∙◌}
 use mathlib.Core.List.{List, ◌∷◌}
-use mathlib.Core.Option.{Option, none, some}
 use mathlib.Core.Bool.{Bool, true, false, cond}
 use native.Mathlib.Omega.{arith}
 use borrow.Author.Tests.{le-leb}
@@ -21,18 +21,18 @@ use Rattle.address_spec.specs.declared.Parsed.TheVariants as parsed
 
 -- ---- the same answer but for a kept text that is one byte longer: of a part, which leaves the same, and of a form
 data Longer : Option (Address × List ℕ) → Option (Address × List ℕ) → Type 0 where
-  nothing : Longer none none
-  that : {v w : Address} {r : List ℕ} → v ≡ longer w → Longer (some (v, r)) (some (w, r))
+  nothing : Longer None None
+  that : {v w : Address} {r : List ℕ} → v ≡ longer w → Longer (Some (v, r)) (Some (w, r))
 
 data LongerForm : Option Address → Option Address → Type 0 where
-  no : LongerForm none none
-  is : {v w : Address} → v ≡ longer w → LongerForm (some v) (some w)
+  no : LongerForm None None
+  is : {v w : Address} → v ≡ longer w → LongerForm (Some v) (Some w)
 
 -- behind one part, and behind two that give the same
 any_then : {A : Type 0} (x : Option (A × List ℕ)) {k l : A → Part Address} → ((v : A) (r : List ℕ) → Longer (k v r) (l v r)) → Longer (then x k) (then x l)
 unfolding then
-any_then none f = nothing
-any_then (some p) f = f p.0 p.1
+any_then None f = nothing
+any_then (Some p) f = f p.0 p.1
 
 same_then : {A : Type 0} {x y : Option (A × List ℕ)} {k l : A → Part Address} → x ≡ y → ((v : A) (r : List ℕ) → Longer (k v r) (l v r)) → Longer (then x k) (then y l)
 same_then {x} {k} {l} e f = subst (λ z. Longer (then x k) (then z l)) e (any_then x f)
@@ -42,7 +42,7 @@ unfolding ended
 ended_longer nothing = no
 ended_longer (that {v = v} {w = w} {r = r} e) = go (at_end r)
   where
-    go : (t : Bool) → LongerForm (cond t (some v) none) (cond t (some w) none)
+    go : (t : Bool) → LongerForm (cond t (Some v) None) (cond t (Some w) None)
     go true = is e
     go false = no
 
@@ -57,7 +57,7 @@ answer_longer true no = refl
 answer_longer true (is e) = ap parsed.Is e
 
 -- ---- two tags with the same behind their first characters, which stand for one letter: the first tag is a byte longer
-module _ (tag plain s : List ℕ) (x y : ℕ) (e : character tag ≡ some (x, s)) (f : character plain ≡ some (y, s)) (h : capital x ≡ capital y)
+module _ (tag plain s : List ℕ) (x y : ℕ) (e : character tag ≡ Some (x, s)) (f : character plain ≡ Some (y, s)) (h : capital x ≡ capital y)
     (all : length tag ≡ suc (length plain)) (part : before "{" tag ≡ suc (before "{" plain)) where
   letter_same : (v : ℕ) → letter_of utf8 v tag ≡ letter_of utf8 v plain
   unfolding letter_of one

@@ -1,9 +1,9 @@
 -- For a tag of bytes below 128 every answer is document 01's.
+use Rattle.std.specs.Prelude.{Option}
 use Prim.Native.Nat.{ℕ, zero, suc, min, ◌-◌, ◌<◌}
 use Prim.Native.Char.{Char}
 use mathlib.Core.Path.{◌≡◌, refl, ap, ap₂, subst, ◌∙◌}
 use mathlib.Core.List.{List, [], ◌∷◌}
-use mathlib.Core.Option.{Option}
 use mathlib.Core.Bool.{Bool, true, false, ◌&&◌, cond}
 use borrow.Author.Tests.{ltb-true}
 use lib.Dec.{leb, ltb, eqb}

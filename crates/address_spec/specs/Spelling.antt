@@ -1,9 +1,8 @@
 -- The address spelling (document 01, "Address spelling"; document 02, A2), form by form, and questions 1 and 2, over what is read as a character and as a letter:
 -- A2's alphabet, or document 01's.
-use Rattle.std.specs.Prelude.{ℕ, zero, suc, min, ◌/◌, ◌%◌, ◌≤◌, ◌≡◌, List, [], ◌∷◌, Bool, true, false, ◌&&◌, not, cond, leb, ltb, eqb, length, take, drop}
+use Rattle.std.specs.Prelude.{ℕ, zero, suc, min, ◌/◌, ◌%◌, ◌≤◌, ◌≡◌, List, [], ◌∷◌, Bool, true, false, ◌&&◌, not, cond, leb, ltb, eqb, length, take, drop, Option, None, Some}
 use Prim.Native.Char.{Char, code}
 use Prim.Native.String.{String}
-use Rattle.std.proofs.Math.Option.{Option, none, some}
 use Rattle.base.specs.Chars.{bytes, spelled}
 use Rattle.file_type.specs.declared.FileType.{FileType}
 use Rattle.file_type.specs.declared.FileType.TheVariants.{O, I, S, B, T, C, N, F, ST, A, L}
@@ -68,8 +67,8 @@ ct_names =
 
 -- "then exactly one name": all the rest spells it. A2: "Names, digits and signs are as before."
 unfoldable pub name_in : List (String × ℕ) → Part ℕ
-name_in [] s = none
-name_in (x ∷ xs) s = cond (spelled true (bytes x.0) s) (some (x.1, [])) (name_in xs s)
+name_in [] s = None
+name_in (x ∷ xs) s = cond (spelled true (bytes x.0) s) (Some (x.1, [])) (name_in xs s)
 
 -- A2: "The separator of a timer or counter address is one character that isn't a newline.", which is U+000A alone; document 01: "one byte that isn't a newline"
 abbrev pub separates : ℕ → Bool
@@ -78,11 +77,11 @@ separates x = not (eqb x 10)
 module _ (char : Part ℕ) (separator : ℕ → Bool) where
   -- an element of k digits, a separator, a name
   unfoldable pub cut : ℕ → Part (ℕ × ℕ)
-  cut k s = then (one char separator (drop k s)) (λ _ r. then (name_in ct_names r) (λ n q. some ((number_of (take k s), n), q)))
+  cut k s = then (one char separator (drop k s)) (λ _ r. then (name_in ct_names r) (λ n q. Some ((number_of (take k s), n), q)))
 
   -- the same with k digits or fewer, "longest cut first"
   unfoldable pub cuts : ℕ → Part (ℕ × ℕ)
-  cuts zero s = none
+  cuts zero s = None
   cuts (suc k) s = or_else (cut (suc k) s) (cuts k s)
 
   unfoldable pub element_name : Part (ℕ × ℕ)
@@ -101,7 +100,7 @@ module _ (alphabet : Alphabet) (separator : ℕ → Bool) where
 -- ---- the other forms
 -- "optional number of 1 to 3 digits, ignored"
 unfoldable pub ignored : Part (Unit {0})
-ignored s = cond (eqb (digit_run s) 0) (some (tt, s)) (then (digits 3 s) (λ _ r. some (tt, r)))
+ignored s = cond (eqb (digit_run s) 0) (Some (tt, s)) (then (digits 3 s) (λ _ r. Some (tt, r)))
 
 -- "optional `.`position (0 to 999)"; "0 if unwritten"
 unfoldable pub optional_position : Part ℕ
@@ -117,8 +116,8 @@ kept_of Missing tag = before "{" tag
 kept_of (Is n) tag = length tag
 
 unfoldable pub or_try : Option Address → Option Address → Option Address
-or_try none q = q
-or_try (some x) q = some x
+or_try None q = q
+or_try (Some x) q = Some x
 
 -- "ST, A: file, `:`, element (4 digits at most), count."; "ST takes only {1} or {2}"
 abbrev pub behind_st_a : Bool → List ℕ → FileType → Part Address
@@ -186,8 +185,8 @@ module _ (alphabet : Alphabet) where
 
 -- ---- questions 1 and 2
 abbrev pub accepted : Option Address → Parsed
-accepted none = parsed.Refused 2
-accepted (some x) = parsed.Is x
+accepted None = parsed.Refused 2
+accepted (Some x) = parsed.Is x
 
 -- A2: "a tag is well-formed UTF-8 of at most 255 bytes"; "1 now means longer than 255 bytes or not well-formed"; document 01: "2. Does `parse_tag` accept it? no: 2"
 unfoldable pub address_of : List ℕ → Parsed

@@ -1,9 +1,9 @@
 -- Laws of the names of timers and counters, and of the element in front of them.
+use Rattle.std.specs.Prelude.{Option, None, Some}
 use Prim.Native.Nat.{ℕ, zero, suc, ◌+◌, ◌*◌, ◌≤◌, ◌<◌, ◌-◌, min}
 use Prim.Native.String.{String}
 use mathlib.Core.Path.{◌≡◌, refl, ap, ap₂, sym, ◌∙◌}
 use mathlib.Core.List.{List, [], ◌∷◌}
-use mathlib.Core.Option.{Option, none, some}
 use mathlib.Core.Bool.{Bool, true, false, not, ◌&&◌, cond, and-true, and_assoc}
 use native.Mathlib.Nat.{not-suc-le-zero, add-sub_cancel_left}
 use native.Mathlib.Omega.{arith}
@@ -76,8 +76,8 @@ by_number_lem (a ∷ name) (b ∷ s) n m l h k =
 
 -- the name of so many letters and this number
 abbrev keyed : ℕ → ℕ → List (String × ℕ) → Option (ℕ × List ℕ)
-keyed l k [] = none
-keyed l k (x ∷ xs) = cond (eqb l (length (bytes x.0)) && eqb k (packed same 0 (bytes x.0))) (some (x.1, [])) (keyed l k xs)
+keyed l k [] = None
+keyed l k (x ∷ xs) = cond (eqb l (length (bytes x.0)) && eqb k (packed same 0 (bytes x.0))) (Some (x.1, [])) (keyed l k xs)
 
 abbrev all_bytes : List (String × ℕ) → Bool
 all_bytes [] = true
@@ -95,18 +95,18 @@ unfolding name_in
 name_by [] s h k = refl
 name_by (x ∷ xs) s h k =
     let p = both (bytes_only (bytes x.0)) (all_bytes xs) h in
-    ap₂ (λ (t : Bool) (r : Option (ℕ × List ℕ)). cond t (some (x.1, [])) r) (spelled_by_lem (bytes x.0) s p.0 k) (name_by xs s p.1 k)
+    ap₂ (λ (t : Bool) (r : Option (ℕ × List ℕ)). cond t (Some (x.1, [])) r) (spelled_by_lem (bytes x.0) s p.0 k) (name_by xs s p.1 k)
 
 module _ (s : List ℕ) (d : Digits s) (l k : ℕ) (e : length s ≡ l) (f : packed upper 0 s ≡ k) where
   by_key : name_in ct_names s ≡ keyed l k ct_names
   unfolding ct_names
   by_key = name_by ct_names s refl d ∙ ap₂ (λ (l k : ℕ). keyed l k ct_names) e f
 
-  is_name : (v : ℕ) → keyed l k ct_names ≡ some (v, []) → name_in ct_names s ≡ maybe_of (maybe.Is v)
+  is_name : (v : ℕ) → keyed l k ct_names ≡ Some (v, []) → name_in ct_names s ≡ maybe_of (maybe.Is v)
   unfolding maybe_of
   is_name v h = by_key ∙ h
 
-  no_name : keyed l k ct_names ≡ none → name_in ct_names s ≡ maybe_of maybe.Missing
+  no_name : keyed l k ct_names ≡ None → name_in ct_names s ≡ maybe_of maybe.Missing
   unfolding maybe_of
   no_name h = by_key ∙ h
 
@@ -115,12 +115,12 @@ abbrev keys_of : ℕ → List (String × ℕ) → List ℕ
 keys_of l [] = []
 keys_of l (x ∷ xs) = cond (eqb l (length (bytes x.0))) (packed same 0 (bytes x.0) ∷ keys_of l xs) (keys_of l xs)
 
-no_key : (l k : ℕ) (xs : List (String × ℕ)) → Unlike same (keys_of l xs) k → keyed l k xs ≡ none
+no_key : (l k : ℕ) (xs : List (String × ℕ)) → Unlike same (keys_of l xs) k → keyed l k xs ≡ None
 no_key l k [] h = refl
 no_key l k (x ∷ xs) h = go (eqb l (length (bytes x.0))) (no_key l k xs) h
   where
-    go : (t : Bool) → (Unlike same (keys_of l xs) k → keyed l k xs ≡ none) → Unlike same (cond t (packed same 0 (bytes x.0) ∷ keys_of l xs) (keys_of l xs)) k
-        → cond (t && eqb k (packed same 0 (bytes x.0))) (some (x.1, [])) (keyed l k xs) ≡ none
+    go : (t : Bool) → (Unlike same (keys_of l xs) k → keyed l k xs ≡ None) → Unlike same (cond t (packed same 0 (bytes x.0) ∷ keys_of l xs) (keys_of l xs)) k
+        → cond (t && eqb k (packed same 0 (bytes x.0))) (Some (x.1, [])) (keyed l k xs) ≡ None
     go true f g = rw (ne_eqb k (packed same 0 (bytes x.0)) g.0) (f g.1)
     go false f g = f g
 
@@ -134,7 +134,7 @@ two_or_three [] = true
 two_or_three (x ∷ xs) = leb 2 (length (bytes x.0)) && (leb (length (bytes x.0)) 3 && two_or_three xs)
 
 module _ (s : List ℕ) (a : length s ≡ 2 → ⊥) (b : length s ≡ 3 → ⊥) where
-  none_of : (xs : List (String × ℕ)) → two_or_three xs ≡ true → name_in xs s ≡ none
+  none_of : (xs : List (String × ℕ)) → two_or_three xs ≡ true → name_in xs s ≡ None
   unfolding name_in
   none_of [] h = refl
   none_of (x ∷ xs) h =
@@ -156,14 +156,14 @@ module _ (s : List ℕ) (r : Maybe) where
   of_three e h = ap (name_in ct_names) (three_of s e) ∙ h
 
 module _ (a b x y : ℕ) (e : x ≡ upper a) (f : y ≡ upper b) (h : x < 256) (i : y < 256) (k : ℕ) (g : x * 256 + y ≡ k) where
-  pub short_is : (v : ℕ) → keyed 2 k ct_names ≡ some (v, []) → name_in ct_names (a ∷ b ∷ []) ≡ maybe_of (maybe.Is v)
+  pub short_is : (v : ℕ) → keyed 2 k ct_names ≡ Some (v, []) → name_in ct_names (a ∷ b ∷ []) ≡ maybe_of (maybe.Is v)
   short_is v q = is_name (a ∷ b ∷ []) (omega arith, (omega arith, tt)) 2 k refl (omega arith) v q
 
   pub short_not : NoName 2 k → name_in ct_names (a ∷ b ∷ []) ≡ maybe_of maybe.Missing
   short_not r = no_name (a ∷ b ∷ []) (omega arith, (omega arith, tt)) 2 k refl (omega arith) (no_key 2 k ct_names (unlike same (keys_of 2 ct_names) k r))
 
 module _ (a b c x y z : ℕ) (e : x ≡ upper a) (f : y ≡ upper b) (g : z ≡ upper c) (h : x < 256) (i : y < 256) (j : z < 256) (k : ℕ) (m : (x * 256 + y) * 256 + z ≡ k) where
-  pub long_is : (v : ℕ) → keyed 3 k ct_names ≡ some (v, []) → name_in ct_names (a ∷ b ∷ c ∷ []) ≡ maybe_of (maybe.Is v)
+  pub long_is : (v : ℕ) → keyed 3 k ct_names ≡ Some (v, []) → name_in ct_names (a ∷ b ∷ c ∷ []) ≡ maybe_of (maybe.Is v)
   long_is v q = is_name (a ∷ b ∷ c ∷ []) (omega arith, (omega arith, (omega arith, tt))) 3 k refl (omega arith) v q
 
   pub long_not : NoName 3 k → name_in ct_names (a ∷ b ∷ c ∷ []) ≡ maybe_of maybe.Missing
@@ -205,7 +205,7 @@ module _ (separator : ℕ → Bool) (s : List ℕ) (i k : ℕ) (q : Eaten) (e : 
     pub name_within : i + k ≤ length s → d.i ≤ length s
     name_within h = omega (arith, read_on.on.end)
 
-    cut_at : cut character separator k (drop i s) ≡ then (name_in ct_names (drop d.i s)) (λ n q. some ((number_of (take k (drop i s)), n), q))
+    cut_at : cut character separator k (drop i s) ≡ then (name_in ct_names (drop d.i s)) (λ n q. Some ((number_of (take k (drop i s)), n), q))
     unfolding cut
     cut_at = rw (drop-drop k i s) (step _ read_on.is)
 

@@ -1,9 +1,9 @@
 -- Laws of decimal text.
+use Rattle.std.specs.Prelude.{None, Some}
 use Prim.Native.Nat.{ℕ, zero, suc, ◌+◌, ◌*◌, ◌-◌, ◌/◌, ◌%◌, ◌^◌, ◌≤◌, ◌<◌}
 use mathlib.Core.Path.{◌≡◌, refl, ap, sym, subst, ◌∙◌}
 use mathlib.Core.List.{List, [], ◌∷◌}
 use mathlib.Core.Bool.{Bool, true, false, cond}
-use mathlib.Core.Option.{none, some}
 use native.Mathlib.Nat.{div-lt_iff_lt-mul, pow-suc}
 use native.Mathlib.Omega.{arith}
 use lib.Dec.{ltb, lit≤}
@@ -121,7 +121,7 @@ unfolding number_from unsigned_of
 too_large n [] h = rw (le-ltb n 18446744073709551616 h)
 too_large n (c ∷ s) h = go (is_digit c) (too_large (n * 10 + (c - 48)) s (omega arith))
   where
-    go : (t : Bool) → unsigned_of (number_from (n * 10 + (c - 48)) s) ≡ Decimal.No → unsigned_of (cond t (number_from (n * 10 + (c - 48)) s) none) ≡ Decimal.No
+    go : (t : Bool) → unsigned_of (number_from (n * 10 + (c - 48)) s) ≡ Decimal.No → unsigned_of (cond t (number_from (n * 10 + (c - 48)) s) None) ≡ Decimal.No
     go true e = e
     go false e = refl
 
@@ -129,12 +129,12 @@ too_large n (c ∷ s) h = go (is_digit c) (too_large (n * 10 + (c - 48)) s (omeg
 not_no : (m : ℕ) → Decimal.Is m ≡ Decimal.No → ⊥
 not_no m e = let z : ◌≡◌ {A = ℕ} 0 1 = cc in omega arith
 
-pub not_none : (m : ℕ) → Decimal.Is m ≡ unsigned_of none → ⊥
+pub not_none : (m : ℕ) → Decimal.Is m ≡ unsigned_of None → ⊥
 unfolding unsigned_of
 not_none m e = not_no m e
 
 module _ (x : ℕ) where
-  pub is_read : (m : ℕ) → Decimal.Is m ≡ unsigned_of (some x) → (m ≡ x) × (x < 18446744073709551616)
+  pub is_read : (m : ℕ) → Decimal.Is m ≡ unsigned_of (Some x) → (m ≡ x) × (x < 18446744073709551616)
   unfolding unsigned_of
   is_read m e = go (ltb x 18446744073709551616) refl e
     where
@@ -142,7 +142,7 @@ module _ (x : ℕ) where
       go true h f = (cc, ltb-true x 18446744073709551616 h)
       go false h f = absurd (not_no m f)
 
-  pub no_read : Decimal.No ≡ unsigned_of (some x) → 18446744073709551616 ≤ x
+  pub no_read : Decimal.No ≡ unsigned_of (Some x) → 18446744073709551616 ≤ x
   unfolding unsigned_of
   no_read e = go (ltb x 18446744073709551616) refl e
     where
@@ -156,7 +156,7 @@ module _ (n c : ℕ) (s : List ℕ) where
   unfolding number_from
   digit_more m e = go (is_digit c) e
     where
-      go : (t : Bool) → Decimal.Is m ≡ unsigned_of (cond t (some (n * 10 + (c - 48))) none) → (m < 18446744073709551616) × (unsigned_of (number_from m s) ≡ unsigned_of (cond t (number_from (n * 10 + (c - 48)) s) none))
+      go : (t : Bool) → Decimal.Is m ≡ unsigned_of (cond t (Some (n * 10 + (c - 48))) None) → (m < 18446744073709551616) × (unsigned_of (number_from m s) ≡ unsigned_of (cond t (number_from (n * 10 + (c - 48)) s) None))
       go true e =
           let k = is_read (n * 10 + (c - 48)) m e in
           (omega arith, ap (λ (x : ℕ). unsigned_of (number_from x s)) k.0)
@@ -166,7 +166,7 @@ module _ (n c : ℕ) (s : List ℕ) where
   unfolding number_from unsigned_of
   digit_stop e = go (is_digit c) e
     where
-      go : (t : Bool) → Decimal.No ≡ unsigned_of (cond t (some (n * 10 + (c - 48))) none) → unsigned_of (cond t (number_from (n * 10 + (c - 48)) s) none) ≡ Decimal.No
+      go : (t : Bool) → Decimal.No ≡ unsigned_of (cond t (Some (n * 10 + (c - 48))) None) → unsigned_of (cond t (number_from (n * 10 + (c - 48)) s) None) ≡ Decimal.No
       go true e = too_large (n * 10 + (c - 48)) s (no_read (n * 10 + (c - 48)) e)
       go false e = refl
 

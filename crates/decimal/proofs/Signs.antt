@@ -1,9 +1,9 @@
 -- Laws of signed numbers, as the machine reads them: an `i64` is read from its bits again and again, and each time it is what it was.
+use Rattle.std.specs.Prelude.{Option, None, Some}
 use Prim.Native.Nat.{ℕ, zero, suc, ◌+◌, ◌-◌, ◌≤◌, ◌<◌}
 use mathlib.Core.List.{List, [], ◌∷◌, ◌++◌}
 use mathlib.Core.Path.{◌≡◌, refl, ap, ap₂, sym, subst, ◌∙◌}
 use mathlib.Core.Bool.{Bool, true, false, cond}
-use mathlib.Core.Option.{Option, none, some}
 use native.Mathlib.Nat.{zero-add}
 use native.Mathlib.Omega.{arith}
 use lib.Dec.{T, leb}
@@ -102,23 +102,23 @@ module _ (m : ℕ) (h : (m ≡ 0 → ⊥)) (g : m ≤ 9223372036854775808) where
       go zero k = absurd (k refl)
       go (suc n) k = let e : n ≡ suc n - 1 = omega arith in ap negsuc e
 
-  pub negative_is : Whole.Is (to_z w64 (of_z w64 (negsuc 0 -ℤ to_z w64 (m - 1)))) ≡ minus (some m)
+  pub negative_is : Whole.Is (to_z w64 (of_z w64 (negsuc 0 -ℤ to_z w64 (m - 1)))) ≡ minus (Some m)
   unfolding minus
   negative_is = rw (le-leb m 9223372036854775808 g) (ap Whole.Is (to_z-of_z opposite_fits ∙ opposite ∙ sym minus_is))
 
-pub negative_none : (m : ℕ) → m ≡ 0 → Whole.Is (pos 0) ≡ minus (some m)
+pub negative_none : (m : ℕ) → m ≡ 0 → Whole.Is (pos 0) ≡ minus (Some m)
 unfolding minus
 negative_none m e = rw e
 
-pub negative_no : (m : ℕ) → 9223372036854775808 < m → Whole.No ≡ minus (some m)
+pub negative_no : (m : ℕ) → 9223372036854775808 < m → Whole.No ≡ minus (Some m)
 unfolding minus
 negative_no m h = rw (lt-leb m 9223372036854775808 h)
 
-pub positive_is : (m : ℕ) → m ≤ 9223372036854775807 → Whole.Is (to_z w64 m) ≡ plus (some m)
+pub positive_is : (m : ℕ) → m ≤ 9223372036854775807 → Whole.Is (to_z w64 m) ≡ plus (Some m)
 unfolding plus
 positive_is m h = rw (lt-ltb m 9223372036854775808 (omega arith))
 
-pub positive_no : (m : ℕ) → 9223372036854775807 < m → Whole.No ≡ plus (some m)
+pub positive_no : (m : ℕ) → 9223372036854775807 < m → Whole.No ≡ plus (Some m)
 unfolding plus
 positive_no m h = rw (le-ltb m 9223372036854775808 (omega arith))
 
@@ -164,19 +164,19 @@ module _ (z : ℤ) (f : SFits w64 z) where
         (first ∙ ap (λ (y : List ℕ). y ++ decimal m) g ∙ ap (λ (n : ℕ). 45 ∷ decimal n) (k ∙ itself_is z f) ∙ sym (text_neg h)) v
 
 -- ---- the number of a text
-some_read : (o : Option ℕ) (m : ℕ) → Decimal.Is m ≡ unsigned_of o → o ≡ some m
-some_read none m e = absurd (not_none m e)
-some_read (some x) m e = ap some (sym (is_read x m e).0)
+some_read : (o : Option ℕ) (m : ℕ) → Decimal.Is m ≡ unsigned_of o → o ≡ Some m
+some_read None m e = absurd (not_none m e)
+some_read (Some x) m e = ap Some (sym (is_read x m e).0)
 
 no_plus : (o : Option ℕ) → Decimal.No ≡ unsigned_of o → Whole.No ≡ plus o
 unfolding plus
-no_plus none e = refl
-no_plus (some x) e = rw (le-ltb x 9223372036854775808 (omega (arith, no_read x e)))
+no_plus None e = refl
+no_plus (Some x) e = rw (le-ltb x 9223372036854775808 (omega (arith, no_read x e)))
 
 no_minus : (o : Option ℕ) → Decimal.No ≡ unsigned_of o → Whole.No ≡ minus o
 unfolding minus
-no_minus none e = refl
-no_minus (some x) e = rw (lt-leb x 9223372036854775808 (omega (arith, no_read x e)))
+no_minus None e = refl
+no_minus (Some x) e = rw (lt-leb x 9223372036854775808 (omega (arith, no_read x e)))
 
 pub signed_empty : (s : List ℕ) → length s ≡ 0 → Whole.No ≡ signed_of s
 unfolding signed_of
@@ -205,14 +205,14 @@ module _ (s : List ℕ) (n : length s ≡ 0 → ⊥) where
     pub minus_no : a ≡ Decimal.No → Whole.No ≡ signed_of s
     minus_no f = no_minus (number_of (take (length s - 1) (drop 1 s))) (sym f ∙ e) ∙ sym (behind h)
 
-    pub minus_yes : (m : ℕ) {w : Whole} → a ≡ Decimal.Is m → w ≡ minus (some m) → w ≡ signed_of s
+    pub minus_yes : (m : ℕ) {w : Whole} → a ≡ Decimal.Is m → w ≡ minus (Some m) → w ≡ signed_of s
     minus_yes m f g = g ∙ ap minus (sym (some_read (number_of (take (length s - 1) (drop 1 s))) m (sym f ∙ e))) ∙ sym (behind h)
 
   module _ (a : Decimal) (h : get_or s 0 0 ≡ 45 → ⊥) (e : a ≡ unsigned_of (number_of s)) where
     pub plus_no : a ≡ Decimal.No → Whole.No ≡ signed_of s
     plus_no f = no_plus (number_of s) (sym f ∙ e) ∙ sym (whole h)
 
-    pub plus_yes : (m : ℕ) {w : Whole} → a ≡ Decimal.Is m → w ≡ plus (some m) → w ≡ signed_of s
+    pub plus_yes : (m : ℕ) {w : Whole} → a ≡ Decimal.Is m → w ≡ plus (Some m) → w ≡ signed_of s
     plus_yes m f g = g ∙ ap plus (sym (some_read (number_of s) m (sym f ∙ e))) ∙ sym (whole h)
 
 -- ---- a narrower number

@@ -1,6 +1,5 @@
 -- Numbers as decimal text.
-use Rattle.std.specs.Prelude.{ℕ, zero, suc, ◌+◌, ◌*◌, ◌-◌, ◌/◌, ◌%◌, ◌^◌, List, [], ◌∷◌, Bool, cond, ◌&&◌, ltb, leb, eqb, ℤ, pos, negsuc, neg_ℤ}
-use Rattle.std.proofs.Math.Option.{Option, none, some}
+use Rattle.std.specs.Prelude.{ℕ, zero, suc, ◌+◌, ◌*◌, ◌-◌, ◌/◌, ◌%◌, ◌^◌, List, [], ◌∷◌, Bool, cond, ◌&&◌, ltb, leb, eqb, ℤ, pos, negsuc, neg_ℤ, Option, None, Some}
 use Rattle.decimal.specs.declared.Decimal.{Decimal}
 use Rattle.decimal.specs.declared.Whole.{Whole}
 
@@ -24,28 +23,28 @@ is_digit c = leb 48 c && leb c 57
 
 -- the number that digits stand for, behind those that make n
 unfoldable pub number_from : ℕ → List ℕ → Option ℕ
-number_from n [] = some n
-number_from n (c ∷ s) = cond (is_digit c) (number_from (n * 10 + (c - 48)) s) none
+number_from n [] = Some n
+number_from n (c ∷ s) = cond (is_digit c) (number_from (n * 10 + (c - 48)) s) None
 
 -- a number of any size: one or more digits, leading zeros allowed
 unfoldable pub number_of : List ℕ → Option ℕ
-number_of [] = none
+number_of [] = None
 number_of (c ∷ s) = number_from 0 (c ∷ s)
 
 -- of these, the numbers below 2 ^ 64
 unfoldable pub unsigned_of : Option ℕ → Decimal
-unsigned_of none = Decimal.No
-unsigned_of (some n) = cond (ltb n (2 ^ 64)) (Decimal.Is n) Decimal.No
+unsigned_of None = Decimal.No
+unsigned_of (Some n) = cond (ltb n (2 ^ 64)) (Decimal.Is n) Decimal.No
 
 -- a number with no sign in front, below 2 ^ 63
 unfoldable pub plus : Option ℕ → Whole
-plus none = Whole.No
-plus (some n) = cond (ltb n (2 ^ 63)) (Whole.Is (pos n)) Whole.No
+plus None = Whole.No
+plus (Some n) = cond (ltb n (2 ^ 63)) (Whole.Is (pos n)) Whole.No
 
 -- a number with `-` in front, down to - 2 ^ 63
 unfoldable pub minus : Option ℕ → Whole
-minus none = Whole.No
-minus (some n) = cond (leb n (2 ^ 63)) (Whole.Is (neg_ℤ (pos n))) Whole.No
+minus None = Whole.No
+minus (Some n) = cond (leb n (2 ^ 63)) (Whole.Is (neg_ℤ (pos n))) Whole.No
 
 -- a single `-` may stand in front
 unfoldable pub signed_of : List ℕ → Whole

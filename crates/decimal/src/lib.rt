@@ -3,7 +3,6 @@
 
 ghost use Rattle.std.specs.Prelude.{◌≡◌, ◌+◌, ◌*◌, ◌<◌, ◌≤◌, length, [], ◌∷◌, nat_abs};
 ghost use Rattle.base.specs.Put.{Puts};
-ghost use Rattle.std.proofs.Math.Option.{some};
 ghost use Rattle.decimal.specs.Decimals.{decimal, signed_text, unsigned_of, number_from, number_of, plus, minus, signed_of};
 
 // A number's digits, with no zero in front, from a place on. The answer is the place behind them.
@@ -102,7 +101,7 @@ pub enum Whole {
 }
 
 fn negative(m: u64) -> Whole
-    ensures { result ≡ minus (some m) }
+    ensures { result ≡ minus (Some m) }
 {
     if m == 0 {
         return Whole::Is(0);
@@ -114,7 +113,7 @@ fn negative(m: u64) -> Whole
 }
 
 fn positive(m: u64) -> Whole
-    ensures { result ≡ plus (some m) }
+    ensures { result ≡ plus (Some m) }
 {
     if m > 9223372036854775807 {
         return Whole::No;

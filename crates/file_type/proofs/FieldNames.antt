@@ -1,8 +1,8 @@
 -- Laws of the names of words and bits in T, C and R.
+use Rattle.std.specs.Prelude.{Option, None, Some}
 use Prim.Native.Nat.{ℕ, suc, ◌+◌, ◌-◌, ◌≤◌, ◌<◌}
 use mathlib.Core.Path.{◌≡◌, refl, ap, ap₂, sym, subst, ◌∙◌}
 use mathlib.Core.List.{List, [], ◌∷◌, ◌++◌, map}
-use mathlib.Core.Option.{Option, none, some}
 use mathlib.Core.Bool.{Bool, true, false, cond}
 use native.Mathlib.Nat.{zero-add}
 use native.Mathlib.Numerals.{add-one}
@@ -136,10 +136,10 @@ module _ (t : FileType) (i : ℕ) {r : Name} where
 
 -- the answers of `field_at`
 module _ (i : ℕ) where
-  pub at_word : i < 2 → field.Word i ≡ field_at (some i)
+  pub at_word : i < 2 → field.Word i ≡ field_at (Some i)
   at_word h = rw (lt-ltb i 2 h)
 
-  pub at_bit : 2 ≤ i → field.Bit (i - 2) ≡ field_at (some i)
+  pub at_bit : 2 ≤ i → field.Bit (i - 2) ≡ field_at (Some i)
   at_bit h = rw (le-ltb i 2 h)
 
 pub below_ten : (t : FileType) (n i : ℕ) → n ≡ length (field_names t) → i < n → i < 10
@@ -159,32 +159,32 @@ module _ (t : FileType) (s : List ℕ) (i : ℕ) (inv : place i (drop i (field_n
       past = omega arith
 
   module _ (n : ℕ) {r : Name} (b : Bool) (e : n ≡ length (field_names t)) (h : i < n) (w : Named (get_or (field_names t) i []) r) (g : b ≡ spelled true (take r.len r.text) s) where
-    step : place i (drop i (field_names t)) s ≡ cond b (some i) (place (i + 1) (drop (i + 1) (field_names t)) s)
+    step : place i (drop i (field_names t)) s ≡ cond b (Some i) (place (i + 1) (drop (i + 1) (field_names t)) s)
     unfolding place
     step =
         ap (λ (l : List (List ℕ)). place i l s) (drop-cons (field_names t) i [] (omega arith))
-        ∙ rw add-one (ap (λ (x : Bool). cond x (some i) (place (suc i) (drop (suc i) (field_names t)) s)) (ap (λ (x : List ℕ). spelled true x s) (sym (name_bytes w)) ∙ sym g))
+        ∙ rw add-one (ap (λ (x : Bool). cond x (Some i) (place (suc i) (drop (suc i) (field_names t)) s)) (ap (λ (x : List ℕ). spelled true x s) (sym (name_bytes w)) ∙ sym g))
 
-    pub found : {f : Field} → b ≡ true → f ≡ field_at (some i) → f ≡ of_field t s
+    pub found : {f : Field} → b ≡ true → f ≡ field_at (Some i) → f ≡ of_field t s
     unfolding of_field
-    found x f = f ∙ ap field_at (sym (step ∙ ap (λ (y : Bool). cond y (some i) (place (i + 1) (drop (i + 1) (field_names t)) s)) x) ∙ inv)
+    found x f = f ∙ ap field_at (sym (step ∙ ap (λ (y : Bool). cond y (Some i) (place (i + 1) (drop (i + 1) (field_names t)) s)) x) ∙ inv)
 
     pub not_found : b ≡ false → place (i + 1) (drop (i + 1) (field_names t)) s ≡ place 0 (field_names t) s
-    not_found x = sym (step ∙ ap (λ (y : Bool). cond y (some i) (place (i + 1) (drop (i + 1) (field_names t)) s)) x) ∙ inv
+    not_found x = sym (step ∙ ap (λ (y : Bool). cond y (Some i) (place (i + 1) (drop (i + 1) (field_names t)) s)) x) ∙ inv
 
 -- a name's place is one of the list's, so a field lies within its element
-place_within : (k : ℕ) (ns : List (List ℕ)) (s : List ℕ) (i : ℕ) → place k ns s ≡ some i → i < k + length ns
+place_within : (k : ℕ) (ns : List (List ℕ)) (s : List ℕ) (i : ℕ) → place k ns s ≡ Some i → i < k + length ns
 unfolding place
 place_within k [] s i e = let z : ◌≡◌ {A = ℕ} 0 1 = cc in absurd (omega arith)
 place_within k (n ∷ ns) s i e = go (spelled true n s) (place_within (suc k) ns s i) e
   where
-    go : (t : Bool) → (place (suc k) ns s ≡ some i → i < suc k + length ns) → cond t (some k) (place (suc k) ns s) ≡ some i → i < k + suc (length ns)
+    go : (t : Bool) → (place (suc k) ns s ≡ Some i → i < suc k + length ns) → cond t (Some k) (place (suc k) ns s) ≡ Some i → i < k + suc (length ns)
     go true h g = let x : k ≡ i = cc in omega arith
     go false h g = omega (arith, h g)
 
-placed_at : (o : Option ℕ) → ((i : ℕ) → o ≡ some i → i < 10) → Placed (field_at o)
-placed_at none h = record { word = λ i e. let z : ◌≡◌ {A = ℕ} 0 1 = cc in absurd (omega arith); bit = λ i e. let z : ◌≡◌ {A = ℕ} 0 1 = cc in absurd (omega arith) }
-placed_at (some k) h = go (ltb k 2) refl
+placed_at : (o : Option ℕ) → ((i : ℕ) → o ≡ Some i → i < 10) → Placed (field_at o)
+placed_at None h = record { word = λ i e. let z : ◌≡◌ {A = ℕ} 0 1 = cc in absurd (omega arith); bit = λ i e. let z : ◌≡◌ {A = ℕ} 0 1 = cc in absurd (omega arith) }
+placed_at (Some k) h = go (ltb k 2) refl
   where
     go : (t : Bool) → ltb k 2 ≡ t → Placed (cond t (field.Word k) (field.Bit (k - 2)))
     go true e = record { word = λ i g. let x : k ≡ i = cc in omega (arith, ltb-true k 2 e); bit = λ i g. let z : ◌≡◌ {A = ℕ} 0 1 = cc in absurd (omega arith) }

@@ -1,6 +1,5 @@
 -- The file types (document 01, "Request bytes" and module 1): names, codes, element sizes, and the names in T, C and R.
-use Rattle.std.specs.Prelude.{ℕ, suc, ◌-◌, ◌≤◌, ◌≡◌, Bool, true, false, cond, List, [], ◌∷◌, ◌++◌, eqb, ltb, length, take, drop, replicate}
-use Rattle.std.proofs.Math.Option.{Option, none, some}
+use Rattle.std.specs.Prelude.{ℕ, suc, ◌-◌, ◌≤◌, ◌≡◌, Bool, true, false, cond, List, [], ◌∷◌, ◌++◌, eqb, ltb, length, take, drop, replicate, Option, None, Some}
 use Rattle.base.specs.Chars.{bytes, spelled}
 use Rattle.file_type.specs.declared.FileType.{FileType}
 use Rattle.file_type.specs.declared.FileType.TheVariants.{O, I, S, B, T, C, R, N, F, ST, A, L, MG, PD, PLS}
@@ -99,13 +98,13 @@ bit_names t = drop 2 (field_names t)
 
 -- the place of a name in a list whose first place is `i`; "Names in either case"
 unfoldable pub place : ℕ → List (List ℕ) → List ℕ → Option ℕ
-place i [] s = none
-place i (n ∷ ns) s = cond (spelled true n s) (some i) (place (suc i) ns s)
+place i [] s = None
+place i (n ∷ ns) s = cond (spelled true n s) (Some i) (place (suc i) ns s)
 
 -- the word or bit at a place
 abbrev pub field_at : Option ℕ → Field
-field_at none = field.Unknown
-field_at (some i) = cond (ltb i 2) (field.Word i) (field.Bit (i - 2))
+field_at None = field.Unknown
+field_at (Some i) = cond (ltb i 2) (field.Word i) (field.Bit (i - 2))
 
 -- what a name stands for in an element of a type
 unfoldable pub of_field : FileType → List ℕ → Field

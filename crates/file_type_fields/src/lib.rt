@@ -2,7 +2,6 @@
 #![tactic(auto)]
 
 ghost use Rattle.std.specs.Prelude.{◌≡◌, [], ◌<◌, length, get_or};
-ghost use Rattle.std.proofs.Math.Option.{some};
 ghost use Rattle.file_type.specs.Fields.{first_field};
 ghost use Rattle.file_type.specs.Table.{Named, bit_names, word_names, field_names, field_at, of_field};
 
@@ -149,7 +148,7 @@ pub fn word_name(t: FileType, i: usize) -> Name
 // The word or bit at a place among the names.
 fn field_at(i: usize) -> Field
     requires { i < 10 }
-    ensures { result ≡ field_at (some i) }
+    ensures { result ≡ field_at (Some i) }
 {
     if i < 2 {
         return Field::Word(i as u8);

@@ -1,8 +1,8 @@
 -- A call's answer and memory, told by the record of its answer.
+use Rattle.std.specs.Prelude.{Option}
 use Prim.Native.Nat.{ℕ}
 use mathlib.Core.Path.{◌≡◌}
 use mathlib.Core.List.{List}
-use mathlib.Core.Option.{Option}
 use Rattle.base.specs.Outcome.{Outcome}
 use Rattle.address_readings.specs.declared.Dotted.{Dotted}
 use Rattle.address_dotted.specs.DottedAnswers as answers

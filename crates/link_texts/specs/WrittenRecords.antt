@@ -1,6 +1,5 @@
 -- The records of answers that count what was written, and of the datalog's part and the directory's size. Refused: the number, and 0 for all else.
-use Rattle.std.specs.Prelude.{ℕ, ◌-◌, ◌≡◌, List, pos, length}
-use Rattle.std.proofs.Math.Option.{Option}
+use Rattle.std.specs.Prelude.{ℕ, ◌-◌, ◌≡◌, List, pos, length, Option}
 use Rattle.base.specs.Outcome.{Outcome, left}
 use Rattle.address_readings.specs.declared.Dotted.{Dotted}
 use Rattle.address_readings.specs.declared.Dotted.TheVariants as dotted

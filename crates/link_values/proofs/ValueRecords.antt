@@ -1,6 +1,6 @@
 -- The record of a value, by its case; and values by the record of an address.
+use Rattle.std.specs.Prelude.{Option}
 use Prim.Native.Nat.{ℕ}
-use mathlib.Core.Option.{Option}
 use mathlib.Core.Path.{◌≡◌, refl, ap, subst, ◌∙◌}
 use mathlib.Core.Bool.{Bool, true, false, not}
 use mathlib.Core.List.{List}

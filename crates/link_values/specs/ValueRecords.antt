@@ -1,6 +1,5 @@
 -- A value of a read reply in the numbers of the C interface (slc_link.h). Its kind is that of a write: false 1, true 2, Latin-1 text 3, a word 4, a long 5, a float 6.
-use Rattle.std.specs.Prelude.{ℕ, ◌≡◌, true, false, not, List, eqb, ℤ, pos}
-use Rattle.std.proofs.Math.Option.{Option, none}
+use Rattle.std.specs.Prelude.{ℕ, ◌≡◌, true, false, not, List, eqb, ℤ, pos, Option, None}
 use Rattle.file_type.specs.declared.Known.{Known}
 use Rattle.file_type.specs.declared.Known.TheVariants as known
 use Rattle.reply_values_spec.specs.declared.ReplyValue.{ReplyValue}
@@ -29,7 +28,7 @@ reply_record (reply.Is v n) = value_record v n
 
 -- by a type code, a bit flag that is any byte but 0, and a sub-element; "a code that no type has is 27" (slc_link.h)
 unfoldable pub values_in : Known → ℕ → ℕ → List ℕ → Option (List Value)
-values_in known.Unknown flag sub s = none
+values_in known.Unknown flag sub s = None
 values_in (known.Is t) flag sub s = values_of t (not (eqb flag 0)) sub s
 
 -- what the call answers and leaves in the lent memory

@@ -1,9 +1,9 @@
 -- Laws by which the readers are proved: each says what a part gives from what the reader met.
+use Rattle.std.specs.Prelude.{Option, None, Some}
 use Prim.Native.Char.{Char}
 use Prim.Native.Nat.{ℕ, ◌+◌, ◌≤◌, ◌<◌, ◌-◌}
 use mathlib.Core.Path.{◌≡◌, refl, ap, sym, ◌∙◌}
 use mathlib.Core.List.{List, [], ◌∷◌}
-use mathlib.Core.Option.{Option, none, some}
 use mathlib.Core.Bool.{Bool, true, false, not, ◌&&◌}
 use native.Mathlib.Nat.{add-sub_cancel_left}
 use native.Mathlib.Omega.{arith}
@@ -35,7 +35,7 @@ pub record Onward (s : List ℕ) (i j : ℕ) : Type 0 where
 
 -- the part `x`, read from the place `i` on, gave `v` and left the text from the place `j` on
 pub record Reads {A : Type 0} (s : List ℕ) (i : ℕ) (x : Option (A × List ℕ)) (v : A) (j : ℕ) : Type 0 where
-  pub is : x ≡ some (v, drop j s)
+  pub is : x ≡ Some (v, drop j s)
   pub on : Onward s i j
 
 module _ (s : List ℕ) (i : ℕ) where
@@ -49,12 +49,12 @@ module _ (s : List ℕ) (i : ℕ) where
   came j k x v h o = record { end = h.on.end ∙ o.end }
 
 module _ {A : Type 0} (s : List ℕ) (i : ℕ) where
-  pub placed_none : (x : Option (A × List ℕ)) → placed i s x ≡ none → x ≡ none
+  pub placed_none : (x : Option (A × List ℕ)) → placed i s x ≡ None → x ≡ None
   unfolding placed
-  placed_none none e = refl
-  placed_none (some p) e = no_some (sym e)
+  placed_none None e = refl
+  placed_none (Some p) e = no_some (sym e)
 
-  pub placed_some : {x : Option (A × List ℕ)} (v : A) (j : ℕ) → Leaves (drop i s) x → placed i s x ≡ some (v, j) → Reads s i x v j
+  pub placed_some : {x : Option (A × List ℕ)} (v : A) (j : ℕ) → Leaves (drop i s) x → placed i s x ≡ Some (v, j) → Reads s i x v j
   unfolding placed
   placed_some v j nothing e = no_some e
   placed_some v j (that {v = u} {r = r} b) e =
@@ -66,45 +66,45 @@ module _ {A : Type 0} (s : List ℕ) (i : ℕ) where
       let d : r ≡ drop j s = sym b.is ∙ drop-drop (length (drop i s) - length r) i s ∙ ap (λ (m : ℕ). drop m s) k in
       record { is = rw (p, d); on = record { end = omega (arith, b.shorter) } }
 
-  pub placed_at : (x : Option (A × List ℕ)) (v : A) (j : ℕ) → x ≡ some (v, drop j s) → Onward s i j → placed i s x ≡ some (v, j)
+  pub placed_at : (x : Option (A × List ℕ)) (v : A) (j : ℕ) → x ≡ Some (v, drop j s) → Onward s i j → placed i s x ≡ Some (v, j)
   unfolding placed
   placed_at x v j e o =
       let n : length (drop j s) ≡ length s - j = length-drop j s in
       let k : end_from i s - length (drop j s) ≡ j = omega (arith, o.end) in
-      rw e (ap (λ (m : ℕ). some (v, m)) k)
+      rw e (ap (λ (m : ℕ). Some (v, m)) k)
 
-  pub placed_by : (x : Option (A × List ℕ)) → x ≡ none → placed i s x ≡ none
+  pub placed_by : (x : Option (A × List ℕ)) → x ≡ None → placed i s x ≡ None
   unfolding placed
   placed_by x e = rw e
 
   pub placed_on : (j : ℕ) (x : Option (A × List ℕ)) → Onward s i j → placed j s x ≡ placed i s x
   unfolding placed
-  placed_on j none o = refl
-  placed_on j (some p) o = rw o.end
+  placed_on j None o = refl
+  placed_on j (Some p) o = rw o.end
 
 -- ---- what a reader answers by what the part gives
 module _ (s : List ℕ) (i : ℕ) where
-  pub no_place : (x : Option (Unit {0} × List ℕ)) → x ≡ none → place.No ≡ eaten_of (placed i s x)
+  pub no_place : (x : Option (Unit {0} × List ℕ)) → x ≡ None → place.No ≡ eaten_of (placed i s x)
   unfolding eaten_of
   no_place x e = rw (placed_by s i x e)
 
-  pub a_place : (x : Option (Unit {0} × List ℕ)) (c : Cur) → x ≡ some (tt, drop c.i s) → Onward s i c.i → place.At c ≡ eaten_of (placed i s x)
+  pub a_place : (x : Option (Unit {0} × List ℕ)) (c : Cur) → x ≡ Some (tt, drop c.i s) → Onward s i c.i → place.At c ≡ eaten_of (placed i s x)
   unfolding eaten_of
   a_place x c e o = rw (placed_at s i x tt c.i e o)
 
-  pub no_number : (x : Option (ℕ × List ℕ)) → x ≡ none → number.No ≡ read_number_of (placed i s x)
+  pub no_number : (x : Option (ℕ × List ℕ)) → x ≡ None → number.No ≡ read_number_of (placed i s x)
   unfolding read_number_of
   no_number x e = rw (placed_by s i x e)
 
-  pub a_number : (x : Option (ℕ × List ℕ)) (n : ℕ) (c : Cur) → x ≡ some (n, drop c.i s) → Onward s i c.i → number.Got n c ≡ read_number_of (placed i s x)
+  pub a_number : (x : Option (ℕ × List ℕ)) (n : ℕ) (c : Cur) → x ≡ Some (n, drop c.i s) → Onward s i c.i → number.Got n c ≡ read_number_of (placed i s x)
   unfolding read_number_of
   a_number x n c e o = rw (placed_at s i x n c.i e o)
 
-  pub no_word : (x : Option (ℕ × List ℕ)) → x ≡ none → word.No ≡ read_word_of (placed i s x)
+  pub no_word : (x : Option (ℕ × List ℕ)) → x ≡ None → word.No ≡ read_word_of (placed i s x)
   unfolding read_word_of
   no_word x e = rw (placed_by s i x e)
 
-  pub a_word : (x : Option (ℕ × List ℕ)) (n : ℕ) (c : Cur) → x ≡ some (n, drop c.i s) → Onward s i c.i → word.Got n c ≡ read_word_of (placed i s x)
+  pub a_word : (x : Option (ℕ × List ℕ)) (n : ℕ) (c : Cur) → x ≡ Some (n, drop c.i s) → Onward s i c.i → word.Got n c ≡ read_word_of (placed i s x)
   unfolding read_word_of
   a_word x n c e o = rw (placed_at s i x n c.i e o)
 
@@ -113,55 +113,55 @@ module _ {A R : Type 0} (to : Option (A × ℕ) → R) (back : R → Option (A �
   gave : back r ≡ placed i s x
   gave = ap back e ∙ told (placed i s x)
 
-  pub gave_none : back r ≡ none → x ≡ none
+  pub gave_none : back r ≡ None → x ≡ None
   gave_none g = placed_none s i x (sym gave ∙ g)
 
-  pub gave_some : (v : A) (j : ℕ) → back r ≡ some (v, j) → Leaves (drop i s) x → Reads s i x v j
+  pub gave_some : (v : A) (j : ℕ) → back r ≡ Some (v, j) → Leaves (drop i s) x → Reads s i x v j
   gave_some v j g l = placed_some s i v j l (sym gave ∙ g)
 
 abbrev eaten_at : Eaten → Option (Unit {0} × ℕ)
-eaten_at place.No = none
-eaten_at (place.At c) = some (tt, c.i)
+eaten_at place.No = None
+eaten_at (place.At c) = Some (tt, c.i)
 
 eaten_told : (o : Option (Unit {0} × ℕ)) → eaten_at (eaten_of o) ≡ o
 unfolding eaten_of
-eaten_told none = refl
-eaten_told (some p) = refl
+eaten_told None = refl
+eaten_told (Some p) = refl
 
 module _ (s : List ℕ) (i : ℕ) (x : Option (Unit {0} × List ℕ)) (r : Eaten) (e : r ≡ eaten_of (placed i s x)) where
-  none_eaten : r ≡ place.No → x ≡ none
+  none_eaten : r ≡ place.No → x ≡ None
   none_eaten g = gave_none eaten_of eaten_at eaten_told s i x r e (ap eaten_at g)
 
   pub some_eaten : (c : Cur) → r ≡ place.At c → Leaves (drop i s) x → Reads s i x tt c.i
   some_eaten c g l = gave_some eaten_of eaten_at eaten_told s i x r e tt c.i (ap eaten_at g) l
 
 abbrev number_at : ReadNumber → Option (ℕ × ℕ)
-number_at number.No = none
-number_at (number.Got n c) = some (n, c.i)
+number_at number.No = None
+number_at (number.Got n c) = Some (n, c.i)
 
 number_told : (o : Option (ℕ × ℕ)) → number_at (read_number_of o) ≡ o
 unfolding read_number_of
-number_told none = refl
-number_told (some p) = refl
+number_told None = refl
+number_told (Some p) = refl
 
 module _ (s : List ℕ) (i : ℕ) (x : Option (ℕ × List ℕ)) (r : ReadNumber) (e : r ≡ read_number_of (placed i s x)) where
-  none_number : r ≡ number.No → x ≡ none
+  none_number : r ≡ number.No → x ≡ None
   none_number g = gave_none read_number_of number_at number_told s i x r e (ap number_at g)
 
   some_number : (n : ℕ) (c : Cur) → r ≡ number.Got n c → Leaves (drop i s) x → Reads s i x n c.i
   some_number n c g l = gave_some read_number_of number_at number_told s i x r e n c.i (ap number_at g) l
 
 abbrev word_at : ReadWord → Option (ℕ × ℕ)
-word_at word.No = none
-word_at (word.Got n c) = some (n, c.i)
+word_at word.No = None
+word_at (word.Got n c) = Some (n, c.i)
 
 word_told : (o : Option (ℕ × ℕ)) → word_at (read_word_of o) ≡ o
 unfolding read_word_of
-word_told none = refl
-word_told (some p) = refl
+word_told None = refl
+word_told (Some p) = refl
 
 module _ (s : List ℕ) (i : ℕ) (x : Option (ℕ × List ℕ)) (r : ReadWord) (e : r ≡ read_word_of (placed i s x)) where
-  none_word : r ≡ word.No → x ≡ none
+  none_word : r ≡ word.No → x ≡ None
   none_word g = gave_none read_word_of word_at word_told s i x r e (ap word_at g)
 
   pub some_word : (n : ℕ) (c : Cur) → r ≡ word.Got n c → Leaves (drop i s) x → Reads s i x n c.i
@@ -169,7 +169,7 @@ module _ (s : List ℕ) (i : ℕ) (x : Option (ℕ × List ℕ)) (r : ReadWord) 
 
 -- ---- one that passes a test, by what `char` read
 module _ (char : Part ℕ) (test : ℕ → Bool) (s : List ℕ) (i : ℕ) where
-  pub one_none : char (drop i s) ≡ none → place.No ≡ eaten_of (placed i s (one char test (drop i s)))
+  pub one_none : char (drop i s) ≡ None → place.No ≡ eaten_of (placed i s (one char test (drop i s)))
   unfolding one
   one_none e = no_place s i _ (stop _ e)
 
@@ -212,7 +212,7 @@ module _ (s : List ℕ) (i n : ℕ) (run : Run s i n) where
   pub numeral_at : (v : ℕ) → (n ≡ 0 → ⊥) → v ≡ number_of (take ((i + n) - i) (drop i s)) → number.Got v (record { i = i + n }) ≡ read_number_of (placed i s (numeral (drop i s)))
   unfolding numeral
   numeral_at v z p =
-      let q : numeral (drop i s) ≡ some (v, drop (i + n) s) = simp (lt-ltb 0 (digit_run (drop i s)) (omega arith), ← e, drop-drop n i s, p, add-sub_cancel_left i n) in
+      let q : numeral (drop i s) ≡ Some (v, drop (i + n) s) = simp (lt-ltb 0 (digit_run (drop i s)) (omega arith), ← e, drop-drop n i s, p, add-sub_cancel_left i n) in
       a_number s i _ v (record { i = i + n }) q (record { end = omega (arith, run.fits) })
 
   pub digits_long : (max : ℕ) → max < n → number.No ≡ read_number_of (placed i s (digits max (drop i s)))
@@ -253,39 +253,39 @@ module _ {A B : Type 0} {s : List ℕ} {i j : ℕ} {x : Option (B × List ℕ)} 
   next k y e h = step k e.is ∙ h
 
 module _ {A : Type 0} (s : List ℕ) (i : ℕ) where
-  pub stop_eaten : (x : Option (Unit {0} × List ℕ)) (r : Eaten) (k : Unit {0} → Part A) → r ≡ eaten_of (placed i s x) → r ≡ place.No → then x k ≡ none
+  pub stop_eaten : (x : Option (Unit {0} × List ℕ)) (r : Eaten) (k : Unit {0} → Part A) → r ≡ eaten_of (placed i s x) → r ≡ place.No → then x k ≡ None
   stop_eaten x r k e g = stop k (none_eaten s i x r e g)
 
   pub next_eaten : (x : Option (Unit {0} × List ℕ)) (r : Eaten) (k : Unit {0} → Part A) (c : Cur) (y : Option (A × List ℕ)) → r ≡ eaten_of (placed i s x) → r ≡ place.At c → Leaves (drop i s) x → k tt (drop c.i s) ≡ y → then x k ≡ y
   next_eaten x r k c y e g l h = next k y (some_eaten s i x r e c g l) h
 
-  pub stop_number : (x : Option (ℕ × List ℕ)) (r : ReadNumber) (k : ℕ → Part A) → r ≡ read_number_of (placed i s x) → r ≡ number.No → then x k ≡ none
+  pub stop_number : (x : Option (ℕ × List ℕ)) (r : ReadNumber) (k : ℕ → Part A) → r ≡ read_number_of (placed i s x) → r ≡ number.No → then x k ≡ None
   stop_number x r k e g = stop k (none_number s i x r e g)
 
   pub next_number : (x : Option (ℕ × List ℕ)) (r : ReadNumber) (k : ℕ → Part A) (n : ℕ) (c : Cur) (y : Option (A × List ℕ)) → r ≡ read_number_of (placed i s x) → r ≡ number.Got n c → Leaves (drop i s) x → k n (drop c.i s) ≡ y → then x k ≡ y
   next_number x r k n c y e g l h = next k y (some_number s i x r e n c g l) h
 
-  pub stop_word : (x : Option (ℕ × List ℕ)) (r : ReadWord) (k : ℕ → Part A) → r ≡ read_word_of (placed i s x) → r ≡ word.No → then x k ≡ none
+  pub stop_word : (x : Option (ℕ × List ℕ)) (r : ReadWord) (k : ℕ → Part A) → r ≡ read_word_of (placed i s x) → r ≡ word.No → then x k ≡ None
   stop_word x r k e g = stop k (none_word s i x r e g)
 
   pub next_word : (x : Option (ℕ × List ℕ)) (r : ReadWord) (k : ℕ → Part A) (n : ℕ) (c : Cur) (y : Option (A × List ℕ)) → r ≡ read_word_of (placed i s x) → r ≡ word.Got n c → Leaves (drop i s) x → k n (drop c.i s) ≡ y → then x k ≡ y
   next_word x r k n c y e g l h = next k y (some_word s i x r e n c g l) h
 
   module _ (r : Eaten) (v : ℕ) (p : Part A) (a : A) (e : r ≡ eaten_of (placed i s (byte v (drop i s)))) where
-    pub not_after : r ≡ place.No → after_byte v p a (drop i s) ≡ some (a, drop i s)
+    pub not_after : r ≡ place.No → after_byte v p a (drop i s) ≡ Some (a, drop i s)
     not_after g = after_absent v p a (drop i s) (none_eaten s i _ r e g)
 
     pub is_after : (c : Cur) (y : Option (A × List ℕ)) → r ≡ place.At c → p (drop c.i s) ≡ y → after_byte v p a (drop i s) ≡ y
     is_after c y g h = after_read v p a (drop i s) (some_eaten s i _ r e c g (byte_leaves v (drop i s))).is ∙ h
 
   module _ (r : Eaten) (v : Char) (a : A) (xs : List (Char × A)) (e : r ≡ eaten_of (placed i s (letter utf8 v (drop i s)))) where
-    pub first_is : (c : Cur) → r ≡ place.At c → first_of utf8 ((v, a) ∷ xs) (drop i s) ≡ some (a, drop c.i s)
+    pub first_is : (c : Cur) → r ≡ place.At c → first_of utf8 ((v, a) ∷ xs) (drop i s) ≡ Some (a, drop c.i s)
     first_is c g = first_read utf8 v a xs (drop i s) (some_eaten s i _ r e c g (letter_leaves _ (drop i s))).is
 
     pub first_not : (y : Option (A × List ℕ)) → r ≡ place.No → first_of utf8 xs (drop i s) ≡ y → first_of utf8 ((v, a) ∷ xs) (drop i s) ≡ y
     first_not y g h = first_past utf8 v a xs (drop i s) (none_eaten s i _ r e g) ∙ h
 
-  pub first_none : (t : List ℕ) → first_of utf8 {A = A} [] t ≡ none
+  pub first_none : (t : List ℕ) → first_of utf8 {A = A} [] t ≡ None
   unfolding first_of
   first_none t = refl
 
@@ -312,23 +312,23 @@ here_yes : {A : Type 0} (t : Bool) (s : List ℕ) (k : Unit {0} → Part A) (y :
 unfolding then here
 here_yes t s k y e h = rw e h
 
-here_no : {A : Type 0} (t : Bool) (s : List ℕ) (k : Unit {0} → Part A) → t ≡ false → then (here t s) k ≡ none
+here_no : {A : Type 0} (t : Bool) (s : List ℕ) (k : Unit {0} → Part A) → t ≡ false → then (here t s) k ≡ None
 unfolding then here
 here_no t s k e = rw e
 
 -- at most, and from low to high
 module _ {A : Type 0} (high n : ℕ) (s : List ℕ) (k : Unit {0} → Part A) where
-  pub above : high < n → then (here (leb n high) s) k ≡ none
+  pub above : high < n → then (here (leb n high) s) k ≡ None
   above h = here_no _ s k (lt-leb n high h)
 
   pub at_most : (y : Option (A × List ℕ)) → n ≤ high → k tt s ≡ y → then (here (leb n high) s) k ≡ y
   at_most y h e = here_yes _ s k y (le-leb n high h) e
 
 module _ {A : Type 0} (low high n : ℕ) (s : List ℕ) (k : Unit {0} → Part A) where
-  pub too_low : n < low → then (here (leb low n && leb n high) s) k ≡ none
+  pub too_low : n < low → then (here (leb low n && leb n high) s) k ≡ None
   too_low h = here_no _ s k (rw (lt-leb low n h))
 
-  pub too_high : low ≤ n → high < n → then (here (leb low n && leb n high) s) k ≡ none
+  pub too_high : low ≤ n → high < n → then (here (leb low n && leb n high) s) k ≡ None
   too_high l h = here_no _ s k (rw (le-leb low n l, lt-leb n high h))
 
   pub in_range_lem : (y : Option (A × List ℕ)) → low ≤ n → n ≤ high → k tt s ≡ y → then (here (leb low n && leb n high) s) k ≡ y

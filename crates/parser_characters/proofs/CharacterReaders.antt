@@ -1,8 +1,8 @@
 -- Laws by which the readers of characters are proved: each says what a part gives from what the reader met.
+use Rattle.std.specs.Prelude.{Option, None, Some}
 use Prim.Native.Nat.{ℕ, ◌+◌, ◌*◌, ◌-◌, ◌≤◌, ◌<◌}
 use mathlib.Core.Path.{◌≡◌, refl, ap, sym, ◌∙◌}
 use mathlib.Core.List.{List, [], ◌∷◌}
-use mathlib.Core.Option.{Option, none, some}
 use mathlib.Core.Bool.{Bool, true, false, cond}
 use native.Mathlib.Omega.{arith}
 use borrow.Author.Tests.{le-leb, lt-leb, leb-true, leb-false, eq-eqb, ne_eqb}
@@ -29,25 +29,25 @@ use Rattle.parser_characters.specs.declared.ReadCharacter.TheVariants as read
 
 -- ---- what a reader answers by what the part gives, and what the part gave by what a reader answered
 module _ (s : List ℕ) (i : ℕ) (x : Option (ℕ × List ℕ)) where
-  no_character : x ≡ none → read.No ≡ character_of (placed i s x)
+  no_character : x ≡ None → read.No ≡ character_of (placed i s x)
   unfolding character_of
   no_character e = rw (placed_by s i x e)
 
-  a_character : (v : ℕ) (c : Cur) → x ≡ some (v, drop c.i s) → Onward s i c.i → read.Got v c ≡ character_of (placed i s x)
+  a_character : (v : ℕ) (c : Cur) → x ≡ Some (v, drop c.i s) → Onward s i c.i → read.Got v c ≡ character_of (placed i s x)
   unfolding character_of
   a_character v c e o = rw (placed_at s i x v c.i e o)
 
 abbrev character_at : ReadCharacter → Option (ℕ × ℕ)
-character_at read.No = none
-character_at (read.Got x c) = some (x, c.i)
+character_at read.No = None
+character_at (read.Got x c) = Some (x, c.i)
 
 character_told : (o : Option (ℕ × ℕ)) → character_at (character_of o) ≡ o
 unfolding character_of
-character_told none = refl
-character_told (some p) = refl
+character_told None = refl
+character_told (Some p) = refl
 
 module _ (s : List ℕ) (i : ℕ) (r : ReadCharacter) (e : r ≡ character_of (placed i s (character (drop i s)))) where
-  none_character : r ≡ read.No → character (drop i s) ≡ none
+  none_character : r ≡ read.No → character (drop i s) ≡ None
   none_character g = gave_none character_of character_at character_told s i _ r e (ap character_at g)
 
   pub some_character : (x : ℕ) (c : Cur) → r ≡ read.Got x c → Reads s i (character (drop i s)) x c.i
@@ -60,7 +60,7 @@ module _ (s : List ℕ) (i low high : ℕ) where
   byte_end h = no_word s i _ (rw (drop_of_length-le s h))
 
   module _ (h : i < length s) where
-    byte_there : (t : Bool) → within (low to high) (get_or s i 0) ≡ t → byte_in (low to high) (drop i s) ≡ cond t (some (get_or s i 0 - low, drop (i + 1) s)) none
+    byte_there : (t : Bool) → within (low to high) (get_or s i 0) ≡ t → byte_in (low to high) (drop i s) ≡ cond t (Some (get_or s i 0 - low, drop (i + 1) s)) None
     unfolding byte_in
     byte_there t e = rw (drop_next s i h, e)
 
@@ -91,7 +91,7 @@ last_byte s i first n r w e a c g = more_bytes s i first n r [] w e a c _ g (a_c
 
 -- ---- the first byte, and its row
 module _ (s : List ℕ) (i : ℕ) where
-  past_end : length s ≤ i → character (drop i s) ≡ none
+  past_end : length s ≤ i → character (drop i s) ≡ None
   unfolding character_in table
   past_end h = rw (drop_of_length-le s h)
 
@@ -138,7 +138,7 @@ module _ (s : List ℕ) (i : ℕ) (inv : well_formed (drop i s) ≡ well_formed 
 
       pub formed_less : (x : ℕ) (c : Cur) → r ≡ read.Got x c → length s - c.i < length s - i
       formed_less x c g =
-          let q : character_in table (get_or s i 0 ∷ drop (i + 1) s) ≡ some (x, drop c.i s) = rw (drop_next s i h) at (some_character s i r e x c g).is in
+          let q : character_in table (get_or s i 0 ∷ drop (i + 1) s) ≡ Some (x, drop c.i s) = rw (drop_next s i h) at (some_character s i r e x c g).is in
           omega (arith, (held_of (lead_read table (get_or s i 0) (drop (i + 1) s)) q).shorter, length-drop c.i s, length-drop (i + 1) s)
 
 -- ---- one character that passes a test: there is none
@@ -211,7 +211,7 @@ module _ (s : List ℕ) (i v : ℕ) where
   unfolding letter_of one here
   letter_other h k l m n = no_place s i _ (rw (drop_next s i h) (past (far (get_or s i 0) (drop (i + 1) s) l)))
     where
-      past : {z : Option (ℕ × List ℕ)} → Holds (λ (x : ℕ) (r : List ℕ). 128 ≤ x) z → then z (λ x. here (eqb (capital x) v)) ≡ none
+      past : {z : Option (ℕ × List ℕ)} → Holds (λ (x : ℕ) (r : List ℕ). 128 ≤ x) z → then z (λ x. here (eqb (capital x) v)) ≡ None
       past nothing = stop _ refl
       past (that {v = x} {r = r} f) = step _ refl ∙ rw (ne_eqb (capital x) v (far_capital x v f k m n))
 

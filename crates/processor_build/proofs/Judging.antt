@@ -1,9 +1,9 @@
 -- The questions of building, in their order.
+use Rattle.std.specs.Prelude.{Option, None, Some}
 use Prim.Native.Nat.{ℕ, ◌-◌, ◌≤◌}
 use mathlib.Core.Path.{◌≡◌, refl, sym, ap, ap₂, ◌∙◌}
 use mathlib.Core.Bool.{Bool, true, false, not, ◌&&◌, cond}
 use mathlib.Core.List.{List, [], ◌∷◌, map}
-use mathlib.Core.Option.{Option, none, some}
 use native.Mathlib.Omega.{arith}
 use borrow.Author.Tests.{leb-true, not-true, not-false}
 use lib.Dec.{leb}
@@ -40,15 +40,15 @@ module _ (fs : List (List ℕ)) (text log : List ℕ) (count t m : ℕ) (o : Ref
 
   -- what is asked after 11 and 12
   abbrev then : Option ℕ
-  then = cond (good_text text) (cond (fits rs t m) (cond (log_fits count log) none (some 15)) (some 14)) (some 13)
+  then = cond (good_text text) (cond (fits rs t m) (cond (log_fits count log) None (Some 15)) (Some 14)) (Some 13)
 
   pub judge_files : (n : ℕ) (r : Judged) → o ≡ refusal.Number n → r ≡ refused_with n → r ≡ list_judged fs text log count t m
   unfolding list_judged
   judge_files n r i q = go (file_refusal [] (map wanted_of fs)) e
     where
       go : (x : Option ℕ) → o ≡ refusal_of x → r ≡ judged (or_then x then) rs
-      go none f = no_number (sym f ∙ i)
-      go (some k) f = let g : n ≡ k = cc in q ∙ ap refused_with g
+      go None f = no_number (sym f ∙ i)
+      go (Some k) f = let g : n ≡ k = cc in q ∙ ap refused_with g
 
   module _ (i : o ≡ refusal.None) where
     passed : list_judged fs text log count t m ≡ judged then rs
@@ -56,8 +56,8 @@ module _ (fs : List (List ℕ)) (text log : List ℕ) (count t m : ℕ) (o : Ref
     passed = go (file_refusal [] (map wanted_of fs)) e
       where
         go : (x : Option ℕ) → o ≡ refusal_of x → judged (or_then x then) rs ≡ judged then rs
-        go none f = refl
-        go (some k) f = no_number (sym i ∙ f)
+        go None f = refl
+        go (Some k) f = no_number (sym i ∙ f)
 
     pub judge_text : (ts : List ℕ) (g : Bool) (r : Judged) → ts ≡ fitted 11 0 text → g ≡ (leb (length text) 11 && good_text (take (length text) ts)) → not g ≡ true → r ≡ refused_with 13 → r ≡ list_judged fs text log count t m
     judge_text ts g r et eg off q = q ∙ sym (passed ∙ rw (sym (eg ∙ text_asked text ts et) ∙ not-true g off))

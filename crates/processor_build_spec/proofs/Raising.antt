@@ -1,9 +1,9 @@
 -- The three parts together are `new_of`: the records that are laid are the planned ones, and a refusal lays none.
+use Rattle.std.specs.Prelude.{Option, None, Some}
 use Prim.Native.Nat.{ℕ, zero, suc, ◌+◌, ◌≤◌, ◌<◌, min}
 use mathlib.Core.Path.{◌≡◌, refl, sym, ap, ap₂, ◌∙◌}
 use mathlib.Core.Bool.{Bool, true, false, cond}
 use mathlib.Core.List.{List, [], ◌∷◌, ◌++◌, map}
-use mathlib.Core.Option.{Option, none, some}
 use native.Mathlib.Nat.{mod-eq_of_lt}
 use native.Mathlib.Numerals.{add-one}
 use native.Mathlib.Omega.{arith}
@@ -87,7 +87,7 @@ module _ (fs : List (List ℕ)) (text log : List ℕ) (count : ℕ) (table : Lis
   abbrev p : Plan
   p = plan_of fs text log count
 
-  module _ (e : build_refusal p (length table) (length memory) ≡ none) where
+  module _ (e : build_refusal p (length table) (length memory) ≡ None) where
     good : good_table (planned p) ≡ true
     good = sound_table (built_state p table memory e) (built_sound p table memory e)
 
@@ -102,24 +102,24 @@ module _ (fs : List (List ℕ)) (text log : List ℕ) (count : ℕ) (table : Lis
     unfolding build_refusal fits
     room = go (file_refusal [] (or_defaults (map wanted_of fs))) (good_text text) (fits (planned p) (length table) (length memory)) refl (log_fits count log) e
       where
-        go : (o : Option ℕ) (x y : Bool) → fits (planned p) (length table) (length memory) ≡ y → (l : Bool) → or_then o (cond x (cond y (cond l none (some 15)) (some 14)) (some 13)) ≡ none
+        go : (o : Option ℕ) (x y : Bool) → fits (planned p) (length table) (length memory) ≡ y → (l : Bool) → or_then o (cond x (cond y (cond l None (Some 15)) (Some 14)) (Some 13)) ≡ None
             → (length (planned p) ≤ length table) × (total (planned p) ≤ length memory)
-        go (some k) x y f l e = no_some (sym e)
-        go none false y f l e = no_some (sym e)
-        go none true false f l e = no_some (sym e)
-        go none true true f l e = (leb-true (length (planned p)) (length table) (search (and_l, and_r)), leb-true (total (planned p)) (length memory) (search (and_l, and_r)))
+        go (Some k) x y f l e = no_some (sym e)
+        go None false y f l e = no_some (sym e)
+        go None true false f l e = no_some (sym e)
+        go None true true f l e = (leb-true (length (planned p)) (length table) (search (and_l, and_r)), leb-true (total (planned p)) (length memory) (search (and_l, and_r)))
 
     built_ready : (b : Built) (t : List FileRecord) (m : List ℕ) → t ≡ laid_of fs (length (planned p)) table
-        → ended b m ≡ finish_of (judged none (planned p)) text count memory → raised b t m ≡ raise none p table memory
+        → ended b m ≡ finish_of (judged None (planned p)) text count memory → raised b t m ≡ raise None p table memory
     unfolding finish_of slc_of slc_with
     built_ready b t m et em =
         let k : min (total (planned p)) (length memory) ≡ total (planned p) = omega (arith, room.1) in
         let q : t ≡ planned p ++ drop (length (planned p)) table = et ∙ laid_all fs (planned p) are table room.0 in
-        let w : ended b m ≡ ended (raise none p table memory).built (put memory 0 (replicate (total (planned p)) 0)) = em ∙ ap (λ (j : ℕ). ended (raise none p table memory).built (put memory 0 (replicate j 0))) k in
+        let w : ended b m ≡ ended (raise None p table memory).built (put memory 0 (replicate (total (planned p)) 0)) = em ∙ ap (λ (j : ℕ). ended (raise None p table memory).built (put memory 0 (replicate j 0))) k in
         ap₂ (λ (x : Ended) (y : List FileRecord). raised x.built y x.memory) w q
 
   built_refused : (n : ℕ) (b : Built) (t : List FileRecord) (m : List ℕ) → t ≡ laid_of fs 0 table
-      → ended b m ≡ finish_of (refused_with n) text count memory → raised b t m ≡ raise (some n) p table memory
+      → ended b m ≡ finish_of (refused_with n) text count memory → raised b t m ≡ raise (Some n) p table memory
   unfolding finish_of refused_with
   built_refused n b t m et em = ap₂ (λ (x : Ended) (y : List FileRecord). raised x.built y x.memory) em (et ∙ laid_none fs table)
 
@@ -130,6 +130,6 @@ module _ (fs : List (List ℕ)) (text log : List ℕ) (count : ℕ) (table : Lis
   new_is j b t m ej et em = go (build_refusal p (length table) (length memory)) refl ej
     where
       go : (o : Option ℕ) → build_refusal p (length table) (length memory) ≡ o → j ≡ judged o (planned p) → raised b t m ≡ raise o p table memory
-      go none e q = built_ready e b t m (et ∙ ap (λ (x : Judged). laid_of fs x.records table) q) (em ∙ ap (λ (x : Judged). finish_of x text count memory) q)
-      go (some n) e q =
+      go None e q = built_ready e b t m (et ∙ ap (λ (x : Judged). laid_of fs x.records table) q) (em ∙ ap (λ (x : Judged). finish_of x text count memory) q)
+      go (Some n) e q =
           built_refused n b t m (et ∙ ap (λ (x : Judged). laid_of fs x.records table) q ∙ unfold refused_with in refl) (em ∙ ap (λ (x : Judged). finish_of x text count memory) q)

@@ -1,6 +1,5 @@
 -- Building, as its parts do it: the list is judged, the records are laid, the processor is finished.
-use Rattle.std.specs.Prelude.{ℕ, zero, suc, ◌%◌, min, Bool, ◌&&◌, cond, List, [], map, leb, length, get_or, set, replicate}
-use Rattle.std.proofs.Math.Option.{Option, none, some}
+use Rattle.std.specs.Prelude.{ℕ, zero, suc, ◌%◌, min, Bool, ◌&&◌, cond, List, [], map, leb, length, get_or, set, replicate, Option, None, Some}
 use Rattle.base.specs.Put.{put}
 use Rattle.element_text.specs.Text.{fitted}
 use Rattle.processor_spec.specs.declared.Built.{Built}
@@ -18,8 +17,8 @@ unfoldable pub refused_with : ℕ → Judged
 refused_with n = record { refusal = refusal.Number n; records = 0; total = 0 }
 
 abbrev pub judged : Option ℕ → List FileRecord → Judged
-judged (some n) rs = refused_with n
-judged none rs = record { refusal = refusal.None; records = length rs; total = total rs }
+judged (Some n) rs = refused_with n
+judged None rs = record { refusal = refusal.None; records = length rs; total = total rs }
 
 unfoldable pub judged_of : Plan → ℕ → ℕ → Judged
 judged_of p table_length memory_length = judged (build_refusal p table_length memory_length) (planned p)
@@ -35,9 +34,9 @@ list_judged files text log count table_length memory_length =
     (or_then (file_refusal [] (map wanted_of files))
     (cond (good_text text)
     (cond (fits (records_of (map wanted_of files)) table_length memory_length)
-    (cond (log_fits count log) none (some 15))
-    (some 14))
-    (some 13)))
+    (cond (log_fits count log) None (Some 15))
+    (Some 14))
+    (Some 13)))
     (records_of (map wanted_of files))
 
 -- where there is no record

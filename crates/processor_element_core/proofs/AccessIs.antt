@@ -1,9 +1,9 @@
 -- What is read and set by the survey of the table is what is read and set of the state.
+use Rattle.std.specs.Prelude.{Option, None, Some}
 use Prim.Native.Nat.{ℕ, ◌+◌, ◌*◌, ◌<◌}
 use mathlib.Core.Path.{◌≡◌, refl, sym, ap, ap₂, subst, ◌∙◌}
 use mathlib.Core.Bool.{Bool, true, false, ◌&&◌, cond}
 use mathlib.Core.List.{List, [], ◌∷◌}
-use mathlib.Core.Option.{Option, none, some}
 use native.Mathlib.Omega.{arith}
 use borrow.Author.Tests.{eqb-true, ltb-true}
 use lib.Dec.{leb, eqb}
@@ -55,12 +55,12 @@ module _ (slc : Slc) (table : List FileRecord) (memory log : List ℕ) (number :
     told = let w : within slc table log ≡ true = inside in let l : leb slc.files (length table) ≡ true = search (and_l, and_r) in rw (l, good)
 
 -- ---- 19
-good_found : (n : ℕ) (rs : List FileRecord) (r : FileRecord) → every good_record rs ≡ true → find n rs ≡ some r → good_record r ≡ true
+good_found : (n : ℕ) (rs : List FileRecord) (r : FileRecord) → every good_record rs ≡ true → find n rs ≡ Some r → good_record r ≡ true
 unfolding every find
 good_found n [] r g e = no_some e
 good_found n (x ∷ xs) r g e = go (eqb x.number n) e (good_found n xs r (and_r (good_record x) _ g))
   where
-    go : (b : Bool) → cond b (some x) (find n xs) ≡ some r → (find n xs ≡ some r → good_record r ≡ true) → good_record r ≡ true
+    go : (b : Bool) → cond b (Some x) (find n xs) ≡ Some r → (find n xs ≡ Some r → good_record r ≡ true) → good_record r ≡ true
     go true e ih = let q : x ≡ r = cc in subst (λ (z : FileRecord). good_record z ≡ true) q (and_l _ _ g)
     go false e ih = ih e
 
@@ -80,14 +80,14 @@ module _ (rs : List FileRecord) (g : good_table rs ≡ true) (number : ℕ) (t :
   element_is = go (find number rs) refl
     where
       go : (o : Option FileRecord) → find number rs ≡ o
-          → cond (there o && eqb (or_none o).code (row t).code && leb (element * (row t).size + (row t).size) (or_none o).length) (some ((or_none o).start + element * (row t).size)) none
+          → cond (there o && eqb (or_none o).code (row t).code && leb (element * (row t).size + (row t).size) (or_none o).length) (Some ((or_none o).start + element * (row t).size)) None
           ≡ place_in o (row t).code element 0 (row t).size
-      go none e = refl
-      go (some r) e = by_type (eqb r.code (row t).code) refl
+      go None e = refl
+      go (Some r) e = by_type (eqb r.code (row t).code) refl
         where
           by_type : (b : Bool) → eqb r.code (row t).code ≡ b
-              → cond (b && leb (element * (row t).size + (row t).size) r.length) (some (r.start + element * (row t).size)) none
-              ≡ cond (b && leb (offset r element 0 + (row t).size) r.length) (some (r.start + offset r element 0)) none
+              → cond (b && leb (element * (row t).size + (row t).size) r.length) (Some (r.start + element * (row t).size)) None
+              ≡ cond (b && leb (offset r element 0 + (row t).size) r.length) (Some (r.start + offset r element 0)) None
           by_type false q = refl
           by_type true q =
               let all-good : every good_record rs ≡ true = search (and_l, and_r) in

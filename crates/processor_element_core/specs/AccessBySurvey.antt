@@ -1,6 +1,5 @@
 -- Element access, by what the survey of the file table tells (document 01, "Element access").
-use Rattle.std.specs.Prelude.{ℕ, ◌+◌, ◌*◌, ◌&&◌, cond, List, leb, eqb, length}
-use Rattle.std.proofs.Math.Option.{Option, none, some}
+use Rattle.std.specs.Prelude.{ℕ, ◌+◌, ◌*◌, ◌&&◌, cond, List, leb, eqb, length, Option, None, Some}
 use Rattle.base.specs.Outcome.{Outcome, refused}
 use Rattle.element_spec.specs.Decode.{Says, refuses}
 use Rattle.element_spec.specs.declared.Value.{Value}
@@ -17,8 +16,8 @@ use Rattle.processor_element_core.specs.declared.Spot.{Spot}
 unfoldable pub element_by : Seen → FileType → ℕ → Option ℕ
 element_by s t element =
     cond (s.hit && eqb s.found.code (row t).code && leb (element * (row t).size + (row t).size) s.found.length)
-    (some (s.found.start + element * (row t).size))
-    none
+    (Some (s.found.start + element * (row t).size))
+    None
 
 -- reading: 16, 19, then 24 with the room for text
 unfoldable pub read_by : Slc → Seen → Spot → List ℕ → List ℕ → ℕ → Says
@@ -27,7 +26,7 @@ read_by slc s w memory log room =
 
 -- setting the element at a place
 unfoldable pub set_here : ℕ → FileType → Value → List ℕ → List ℕ → Outcome
-set_here at t v text memory = set_at (some at) t v text memory
+set_here at t v text memory = set_at (Some at) t v text memory
 
 -- setting: 16, 19, then 20 to 23 of the element's bytes
 unfoldable pub set_by : Slc → Seen → Setting → List ℕ → List ℕ → List ℕ → Outcome

@@ -1,9 +1,9 @@
 -- Where an access begins, and parts of memories.
+use Rattle.std.specs.Prelude.{None, Some}
 use Prim.Native.Nat.{ℕ, ◌+◌, ◌-◌, ◌*◌, ◌≤◌, ◌<◌, ◌^◌, min}
 use mathlib.Core.Path.{◌≡◌, refl, sym, ap, ◌∙◌}
 use mathlib.Core.Bool.{Bool, true, false, not}
 use mathlib.Core.List.{List, []}
-use mathlib.Core.Option.{none, some}
 use native.Mathlib.Nat.{mul-le-mul}
 use native.Mathlib.Omega.{arith}
 use mir.Syntax.{w64}
@@ -62,23 +62,23 @@ module _ (a b code : ℕ) (h : a < 2 ^ 16) (e : b ≡ element_size code) where
 
 -- ---- the place
 module _ (s : Seen) (q : Query) where
-  pub no_hit : not s.hit ≡ true → none ≡ locate_by s q
+  pub no_hit : not s.hit ≡ true → None ≡ locate_by s q
   unfolding locate_by
   no_hit h = rw (not-true s.hit h)
 
   module _ (h : not s.hit ≡ false) where
-    pub no_type_lem : (s.found.code ≡ q.code → ⊥) → none ≡ locate_by s q
+    pub no_type_lem : (s.found.code ≡ q.code → ⊥) → None ≡ locate_by s q
     unfolding locate_by
     no_type_lem ne = rw (not-false s.hit h, ne_eqb s.found.code q.code ne)
 
     module _ (t : s.found.code ≡ q.code) (e : ℕ) (ee : e ≡ element_size s.found.code) where
-      pub too_long : s.found.length < q.element * e + 2 * q.sub + q.size → none ≡ locate_by s q
+      pub too_long : s.found.length < q.element * e + 2 * q.sub + q.size → None ≡ locate_by s q
       unfolding locate_by
       too_long l =
           let k : s.found.length < q.element * element_size s.found.code + 2 * q.sub + q.size = rw (← ee) l in
           rw (not-false s.hit h, eq-eqb s.found.code q.code t, lt-leb (q.element * element_size s.found.code + 2 * q.sub + q.size) s.found.length k)
 
-      pub located : q.element * e + 2 * q.sub + q.size ≤ s.found.length → some (s.found.start + (q.element * e + 2 * q.sub)) ≡ locate_by s q
+      pub located : q.element * e + 2 * q.sub + q.size ≤ s.found.length → Some (s.found.start + (q.element * e + 2 * q.sub)) ≡ locate_by s q
       unfolding locate_by
       located l =
           let k : q.element * element_size s.found.code + 2 * q.sub + q.size ≤ s.found.length = rw (← ee) l in

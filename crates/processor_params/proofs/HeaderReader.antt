@@ -1,9 +1,9 @@
 -- The readers, return by return; and that what is taken part by part is the header.
+use Rattle.std.specs.Prelude.{Option, None, Some}
 use Prim.Native.Nat.{ℕ, suc, ◌+◌, ◌-◌, ◌≤◌, ◌<◌}
 use mathlib.Core.Path.{◌≡◌, refl, ap, ◌∙◌}
 use mathlib.Core.Bool.{Bool, true, false}
 use mathlib.Core.List.{List, [], ◌∷◌}
-use mathlib.Core.Option.{Option, none, some}
 use native.Mathlib.Numerals.{add-one}
 use native.Mathlib.Omega.{arith}
 use borrow.Author.Tests.{leb-true, leb-false, eqb-true, eqb-false}
@@ -69,8 +69,8 @@ module _ (s : List ℕ) (at : ℕ) where
 
 -- a part that is there leaves what stands from a place on
 data Found (s : List ℕ) : Option (ℕ × List ℕ) → Type 0 where
-  missing : Found s none
-  upto : (n k : ℕ) → k ≤ length s → Found s (some (n, drop k s))
+  missing : Found s None
+  upto : (n k : ℕ) → k ≤ length s → Found s (Some (n, drop k s))
 
 module _ (s : List ℕ) (at : ℕ) where
   byte_found : Found s (number_of 1 (drop at s))

@@ -1,6 +1,5 @@
 -- What stands in front of each access, as plain data.
-use Rattle.std.specs.Prelude.{ℕ, true, false, List}
-use Rattle.std.proofs.Math.Option.{Option, none, some}
+use Rattle.std.specs.Prelude.{ℕ, true, false, List, Option, None, Some}
 use Rattle.processor_spec.specs.Params.{header}
 use Rattle.processor_spec.specs.Params as model
 use Rattle.processor_params.specs.declared.TakenByte.{TakenByte}
@@ -14,8 +13,8 @@ unfoldable pub no_header : Header
 no_header = record { whole = false; size = 0; file = 0; code = 0; element = 0; next = 0 }
 
 abbrev pub header_by : List ℕ → Option (model.Header × List ℕ) → Header
-header_by s none = no_header
-header_by s (some x) = record {
+header_by s None = no_header
+header_by s (Some x) = record {
   whole = true;
   size = x.0.size;
   file = x.0.file;

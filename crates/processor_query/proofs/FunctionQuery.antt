@@ -1,9 +1,9 @@
 -- What the bytes behind the frame say, question by question.
+use Rattle.std.specs.Prelude.{Some}
 use Prim.Native.Nat.{ℕ, ◌-◌, ◌≤◌, ◌<◌}
 use mathlib.Core.Path.{◌≡◌, sym, ap, ◌∙◌}
 use mathlib.Core.Bool.{Bool, true, false, not}
 use mathlib.Core.List.{List}
-use mathlib.Core.Option.{some}
 use native.Mathlib.Omega.{arith}
 use borrow.Author.Tests.{le-leb, lt-leb, not-true, not-false}
 use lib.ListN.{length, drop, length-drop}
@@ -41,7 +41,7 @@ module _ (s : List ℕ) (fn at : ℕ) (h : Header) (q : Query) (l : at ≤ lengt
   file_no_sub m e = rw (step_none s at a (last_address fn (drop at s)) ea m) e
 
   module _ (sub : ℕ) (ga : a.got ≡ word.Value sub) where
-    read_sub : (last_address fn (drop at s) ≡ some (sub, drop a.next s)) × (a.next ≤ length s)
+    read_sub : (last_address fn (drop at s) ≡ Some (sub, drop a.next s)) × (a.next ≤ length s)
     read_sub = step_some s at a l sub (last_address fn (drop at s)) (last_leaves fn (drop at s)) ea ga
 
     module _ (b : WordStep) (eb : b ≡ word_step s a.next (mask_word fn (drop a.next s))) where
@@ -50,7 +50,7 @@ module _ (s : List ℕ) (fn at : ℕ) (h : Header) (q : Query) (l : at ≤ lengt
       file_no_mask m e = rw (read_sub.0, step_none s a.next b (mask_word fn (drop a.next s)) eb m) e
 
       module _ (mask : ℕ) (gb : b.got ≡ word.Value mask) where
-        read_mask : (mask_word fn (drop a.next s) ≡ some (mask, drop b.next s)) × (b.next ≤ length s)
+        read_mask : (mask_word fn (drop a.next s) ≡ Some (mask, drop b.next s)) × (b.next ≤ length s)
         read_mask = step_some s a.next b read_sub.1 mask (mask_word fn (drop a.next s)) (mask_leaves fn (drop a.next s)) eb gb
 
         there : place_of s (drop b.next s) ≡ b.next

@@ -1,9 +1,9 @@
 -- What was read, by the place behind it.
+use Rattle.std.specs.Prelude.{Option, None, Some}
 use Prim.Native.Nat.{ℕ, ◌+◌, ◌-◌, ◌≤◌, ◌<◌}
 use mathlib.Core.Path.{◌≡◌, refl, sym, ap, ◌∙◌}
 use mathlib.Core.Bool.{true, false, not, false≢true}
 use mathlib.Core.List.{List}
-use mathlib.Core.Option.{Option, none, some}
 use native.Mathlib.Omega.{arith}
 use borrow.Author.Tests.{le-leb, not-true, not-false, ne_eqb}
 use lib.ListN.{length, take, drop, length-drop}
@@ -23,42 +23,42 @@ use Rattle.processor_query.proofs.ParamsLeave.{header_leaves}
 
 -- ---- a step
 module _ (s : List ℕ) (at : ℕ) (a : WordStep) where
-  pub step_none : (o : Option (ℕ × List ℕ)) → a ≡ word_step s at o → a.got ≡ word.Missing → o ≡ none
-  step_none none e m = refl
-  step_none (some x) e m = let q : word.Value x.0 ≡ word.Missing = sym (ap (λ (z : WordStep). z.got) e) ∙ m in let z : ◌≡◌ {A = ℕ} 0 1 = cc in absurd (omega arith)
+  pub step_none : (o : Option (ℕ × List ℕ)) → a ≡ word_step s at o → a.got ≡ word.Missing → o ≡ None
+  step_none None e m = refl
+  step_none (Some x) e m = let q : word.Value x.0 ≡ word.Missing = sym (ap (λ (z : WordStep). z.got) e) ∙ m in let z : ◌≡◌ {A = ℕ} 0 1 = cc in absurd (omega arith)
 
   pub step_some : at ≤ length s → (v : ℕ) (o : Option (ℕ × List ℕ)) → Leaves (drop at s) o → a ≡ word_step s at o → a.got ≡ word.Value v
-      → (o ≡ some (v, drop a.next s)) × (a.next ≤ length s)
-  step_some h v none l e m = let q : word.Missing ≡ word.Value v = sym (ap (λ (z : WordStep). z.got) e) ∙ m in let z : ◌≡◌ {A = ℕ} 0 1 = cc in absurd (omega arith)
-  step_some h v (some x) (that b) e m =
+      → (o ≡ Some (v, drop a.next s)) × (a.next ≤ length s)
+  step_some h v None l e m = let q : word.Missing ≡ word.Value v = sym (ap (λ (z : WordStep). z.got) e) ∙ m in let z : ◌≡◌ {A = ℕ} 0 1 = cc in absurd (omega arith)
+  step_some h v (Some x) (that b) e m =
       let c : Behind s x.1 = behind_trans (behind_drop at s h) b in
       let n : a.next ≡ length s - length x.1 = ap (λ (z : WordStep). z.next) e in
       let q : word.Value x.0 ≡ word.Value v = sym (ap (λ (z : WordStep). z.got) e) ∙ m in
       let p : x.0 ≡ v = cc in
       let r : x.1 ≡ drop a.next s = sym c.is ∙ ap (λ (k : ℕ). drop k s) (sym n) in
-      (ap {B = Option (ℕ × List ℕ)} (λ (k : ℕ). some (k, x.1)) p ∙ ap {B = Option (ℕ × List ℕ)} (λ (k : List ℕ). some (v, k)) r, omega (arith, n))
+      (ap {B = Option (ℕ × List ℕ)} (λ (k : ℕ). Some (k, x.1)) p ∙ ap {B = Option (ℕ × List ℕ)} (λ (k : List ℕ). Some (v, k)) r, omega (arith, n))
 
 -- ---- the header
 module _ (s : List ℕ) (h : params.Header) (e : h ≡ header_of s) where
-  pub header_none : not h.whole ≡ true → header s ≡ none
+  pub header_none : not h.whole ≡ true → header s ≡ None
   unfolding header_of no_header
   header_none t = go (header s) e
     where
-      go : (o : Option (Header × List ℕ)) → h ≡ header_by s o → o ≡ none
-      go none q = refl
-      go (some x) q = absurd (false≢true (sym (not-true h.whole t) ∙ ap (λ (z : params.Header). z.whole) q))
+      go : (o : Option (Header × List ℕ)) → h ≡ header_by s o → o ≡ None
+      go None q = refl
+      go (Some x) q = absurd (false≢true (sym (not-true h.whole t) ∙ ap (λ (z : params.Header). z.whole) q))
 
-  pub header_some : not h.whole ≡ false → (header s ≡ some (header_in h, drop h.next s)) × (h.next ≤ length s)
+  pub header_some : not h.whole ≡ false → (header s ≡ Some (header_in h, drop h.next s)) × (h.next ≤ length s)
   unfolding header_of no_header
   header_some t = go (header s) (header_leaves s) e
     where
-      go : (o : Option (Header × List ℕ)) → Leaves s o → h ≡ header_by s o → (o ≡ some (header_in h, drop h.next s)) × (h.next ≤ length s)
-      go none l q = absurd (false≢true (sym (ap (λ (z : params.Header). z.whole) q) ∙ not-false h.whole t))
-      go (some x) (that b) q =
+      go : (o : Option (Header × List ℕ)) → Leaves s o → h ≡ header_by s o → (o ≡ Some (header_in h, drop h.next s)) × (h.next ≤ length s)
+      go None l q = absurd (false≢true (sym (ap (λ (z : params.Header). z.whole) q) ∙ not-false h.whole t))
+      go (Some x) (that b) q =
           let n : h.next ≡ length s - length x.1 = ap (λ (z : params.Header). z.next) q in
           let r : x.1 ≡ drop h.next s = sym b.is ∙ ap (λ (k : ℕ). drop k s) (sym n) in
           let p : x.0 ≡ header_in h = sym (ap header_in q) in
-          (ap {B = Option (Header × List ℕ)} (λ (k : Header). some (k, x.1)) p ∙ ap {B = Option (Header × List ℕ)} (λ (k : List ℕ). some (header_in h, k)) r, omega (arith, n))
+          (ap {B = Option (Header × List ℕ)} (λ (k : Header). Some (k, x.1)) p ∙ ap {B = Option (Header × List ℕ)} (λ (k : List ℕ). Some (header_in h, k)) r, omega (arith, n))
 
 -- ---- the last address and the mask
 module _ (fn : ℕ) (s : List ℕ) (at : ℕ) (h : at ≤ length s) where

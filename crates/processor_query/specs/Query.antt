@@ -1,7 +1,6 @@
 -- What a command says, by the command and the type text alone (document 01, "What the processor does"): the questions of `ask` in processor_spec that
 -- don't concern the file table, as plain data.
-use Rattle.std.specs.Prelude.{ℕ, true, false, ◌&&◌, cond, List, [], ◌∷◌, eqb, take}
-use Rattle.std.proofs.Math.Option.{Option, none, some}
+use Rattle.std.specs.Prelude.{ℕ, true, false, ◌&&◌, cond, List, [], ◌∷◌, eqb, take, Option, None, Some}
 use Rattle.parser_spec.specs.Parts.{Part, ◌>>=◌, give}
 use Rattle.directory_sys0.specs.declared.Sys0Info.{Sys0Info}
 use Rattle.directory_sys0.specs.Families.{sys0}
@@ -66,7 +65,7 @@ access_query w h sub mask place = record {
 
 -- the bytes that are left
 abbrev pub rest : Part (List ℕ)
-rest s = some (s, s)
+rest s = Some (s, s)
 
 -- "Else the last address .., the mask (0xAB) and, for 0xAA and 0xAB, size value bytes must be there"; `s` are all parameters
 unfoldable pub file_query : List ℕ → ℕ → Header → Part Query
@@ -78,13 +77,13 @@ file_query s fn h = do
   give (access_query (cond (writes fn) wants.Write wants.Read) h sub mask (place_of s behind))
 
 unfoldable pub or_bad : Option (Query × List ℕ) → Query
-or_bad none = plainly wants.Bad
-or_bad (some x) = x.0
+or_bad None = plainly wants.Bad
+or_bad (Some x) = x.0
 
 -- the questions of CMD 0x0F, in their order; `x` are the header and the bytes behind it
 unfoldable pub function_query : List ℕ → ℕ → List ℕ → Option (Header × List ℕ) → Query
-function_query text fn s none = plainly wants.Bad
-function_query text fn s (some x) =
+function_query text fn s None = plainly wants.Bad
+function_query text fn s (Some x) =
     cond (known_function fn)
     (cond (asks_directory fn x.0.file) (directory_query (sys0 text) x.0)
     (cond (asks_datalog fn x.0.code) (plainly wants.Entry)

@@ -1,9 +1,9 @@
 -- The questions in front of what a command does.
+use Rattle.std.specs.Prelude.{Option, None, Some}
 use Prim.Native.Nat.{ℕ, ◌≤◌, ◌<◌}
 use mathlib.Core.Path.{◌≡◌, refl, sym, ◌∙◌}
 use mathlib.Core.Bool.{Bool, true, false, not}
 use mathlib.Core.List.{List}
-use mathlib.Core.Option.{Option, none, some}
 use borrow.Author.Tests.{leb-true, le-leb, lt-leb, not-true, not-false}
 use lib.Dec.{leb}
 use lib.ListN.{length}
@@ -43,13 +43,13 @@ module _ (c : List ℕ) (room : ℕ) (sound ok : Bool) (eo : ok ≡ sound) where
       no_more u = rw (← eo, not-false ok t, le-leb 514 room l, ← ew, not-false w u)
 
 -- what a refusal tells of the answers
-none_told : (q : Option ℕ) → refusal.None ≡ refusal_of q → q ≡ none
-none_told none e = refl
-none_told (some n) e = no_number e
+none_told : (q : Option ℕ) → refusal.None ≡ refusal_of q → q ≡ None
+none_told None e = refl
+none_told (Some n) e = no_number e
 
-number_told : (n : ℕ) (q : Option ℕ) → refusal.Number n ≡ refusal_of q → q ≡ some n
-number_told n none e = no_number (sym e)
-number_told n (some k) e = cc
+number_told : (n : ℕ) (q : Option ℕ) → refusal.Number n ≡ refusal_of q → q ≡ Some n
+number_told n None e = no_number (sym e)
+number_told n (Some k) e = cc
 
 -- ---- the call
 module _ (slc : Slc) (s : Seen) (m log c reply : List ℕ) where
@@ -76,7 +76,7 @@ module _ (slc : Slc) (s : Seen) (m log c reply : List ℕ) where
       unfolding question_of
       all_yes = go (sound_by slc s (length m) log) refl (leb 514 (length reply)) refl (well_formed c) refl (none_told asked (sym z ∙ e))
         where
-          go : (b : Bool) → sound_by slc s (length m) log ≡ b → (r : Bool) → leb 514 (length reply) ≡ r → (w : Bool) → well_formed c ≡ w → first_no b r w ≡ none → Answered-yes
+          go : (b : Bool) → sound_by slc s (length m) log ≡ b → (r : Bool) → leb 514 (length reply) ≡ r → (w : Bool) → well_formed c ≡ w → first_no b r w ≡ None → Answered-yes
           go true p true q true u h = record { sound = p; room = leb-true 514 (length reply) q; well = u }
           go true p true q false u h = no_some (sym h)
           go true p false q w u h = no_some (sym h)

@@ -1,9 +1,9 @@
 -- The definitions of the query, the survey, `respond` and `show` give the model's: what a call does that asks, surveys and then answers.
+use Rattle.std.specs.Prelude.{Option, None, Some}
 use Prim.Native.Nat.{ℕ, zero, suc, ◌+◌, ◌*◌, ◌≤◌}
 use mathlib.Core.Path.{◌≡◌, refl, sym, ap, subst, ◌∙◌}
 use mathlib.Core.Bool.{Bool, true, false, ◌&&◌, cond}
 use mathlib.Core.List.{List, [], ◌∷◌}
-use mathlib.Core.Option.{Option, none, some}
 use native.Mathlib.Omega.{arith}
 use borrow.Author.Tests.{leb-true}
 use lib.Dec.{leb, eqb}
@@ -39,9 +39,9 @@ use Rattle.processor_refinement.specs.CallBySurvey.{first_no, question_of, quest
 use Rattle.processor_refinement.specs.StepsBySurvey.{tells, status_step, pop_step, read_at, read_step, values_of, write_at, write_step, obey_step, size_asked, directory_length, size_bytes, part_step, directory_step}
 use Rattle.processor_locate.specs.Locate.{locate_by}
 
-found_is : (o : Option FileRecord) → cond (there o) (some (or_none o)) none ≡ o
-found_is none = refl
-found_is (some r) = refl
+found_is : (o : Option FileRecord) → cond (there o) (Some (or_none o)) None ≡ o
+found_is None = refl
+found_is (Some r) = refl
 
 -- a part of a prefix is the part of the whole
 take_prefix : (k n : ℕ) (s : List ℕ) → k ≤ n → take k (take n s) ≡ take k s
@@ -74,21 +74,21 @@ module _ (slc : Slc) (t : List FileRecord) (m log c : List ℕ) (fill : Query �
   -- ---- a file
   module _ (fn : ℕ) (p r : List ℕ) (h : Header) (ef : function c ≡ fn ∷ p) (b : Behind p r) where
     read_leaf : (mask : ℕ) (s : List ℕ) (o : Option ℕ)
-        → read_at o h.size m c ≡ perform (held_state slc t m log) c (or_bad_ask (then (place o s) (λ at z. some (Ask.read at h.size, z))))
+        → read_at o h.size m c ≡ perform (held_state slc t m log) c (or_bad_ask (then (place o s) (λ at z. Some (Ask.read at h.size, z))))
     unfolding then perform held_state bad
-    read_leaf mask s none = refl
-    read_leaf mask s (some at) = refl
+    read_leaf mask s None = refl
+    read_leaf mask s (Some at) = refl
 
     write_leaf : (mask : ℕ) (vs s : List ℕ) (o : Option ℕ)
-        → write_at o mask vs m c ≡ perform (held_state slc t m log) c (or_bad_ask (then (place o s) (λ at z. some (Ask.write at mask vs, z))))
+        → write_at o mask vs m c ≡ perform (held_state slc t m log) c (or_bad_ask (then (place o s) (λ at z. Some (Ask.write at mask vs, z))))
     unfolding then perform held_state bad
-    write_leaf mask vs s none = refl
-    write_leaf mask vs s (some at) = refl
+    write_leaf mask vs s None = refl
+    write_leaf mask vs s (Some at) = refl
 
     abbrev Same : Type 0
     Same = does (or_bad (file_query p fn h r)) ≡ perform (held_state slc t m log) c (or_bad_ask (ask_file rs fn h r))
 
-    module _ (x : ℕ × List ℕ) (e₁ : last_address fn r ≡ some x) (y : ℕ × List ℕ) (e₂ : mask_word fn x.1 ≡ some y) (b₂ : Behind p y.1) where
+    module _ (x : ℕ × List ℕ) (e₁ : last_address fn r ≡ Some x) (y : ℕ × List ℕ) (e₂ : mask_word fn x.1 ≡ Some y) (b₂ : Behind p y.1) where
       abbrev reading : Query
       reading = access_query wants.Read h x.0 y.0 (rest_place p y.1)
 
@@ -121,17 +121,17 @@ module _ (slc : Slc) (t : List FileRecord) (m log c : List ℕ) (fill : Query �
     unfolding or_bad file_query ask_file then obey_step perform bad
     file_same = sub (last_address fn r) refl (last_leaves fn r)
       where
-        by_writes : (w : Bool) → writes fn ≡ w → (x : ℕ × List ℕ) → last_address fn r ≡ some x → (y : ℕ × List ℕ) → mask_word fn x.1 ≡ some y → Behind p y.1 → Same
+        by_writes : (w : Bool) → writes fn ≡ w → (x : ℕ × List ℕ) → last_address fn r ≡ Some x → (y : ℕ × List ℕ) → mask_word fn x.1 ≡ Some y → Behind p y.1 → Same
         by_writes true f x e₁ y e₂ b₂ = writes_same x e₁ y e₂ b₂ f
         by_writes false f x e₁ y e₂ b₂ = reads_same x e₁ y e₂ b₂ f
 
-        mask : (x : ℕ × List ℕ) → last_address fn r ≡ some x → Behind p x.1 → (o : Option (ℕ × List ℕ)) → mask_word fn x.1 ≡ o → Leaves x.1 o → Same
-        mask x e₁ b₁ none e₂ l = rw (e₁, e₂)
-        mask x e₁ b₁ (some y) e₂ (that b₂) = by_writes (writes fn) refl x e₁ y e₂ (behind_trans b₁ b₂)
+        mask : (x : ℕ × List ℕ) → last_address fn r ≡ Some x → Behind p x.1 → (o : Option (ℕ × List ℕ)) → mask_word fn x.1 ≡ o → Leaves x.1 o → Same
+        mask x e₁ b₁ None e₂ l = rw (e₁, e₂)
+        mask x e₁ b₁ (Some y) e₂ (that b₂) = by_writes (writes fn) refl x e₁ y e₂ (behind_trans b₁ b₂)
 
         sub : (o : Option (ℕ × List ℕ)) → last_address fn r ≡ o → Leaves r o → Same
-        sub none e l = rw e
-        sub (some x) e (that b₁) = mask x e (behind_trans b b₁) (mask_word fn x.1) refl (mask_leaves fn x.1)
+        sub None e l = rw e
+        sub (Some x) e (that b₁) = mask x e (behind_trans b b₁) (mask_word fn x.1) refl (mask_leaves fn x.1)
 
   -- ---- the directory
   module _ (filled : (q : Query) → q.layout ≡ layout_of (sys0 text) → take (length (directory rs (sys0 text))) (fill q) ≡ directory rs (sys0 text)) where
@@ -165,8 +165,8 @@ module _ (slc : Slc) (t : List FileRecord) (m log c : List ℕ) (fill : Query �
     function_same : (fn : ℕ) (p : List ℕ) → function c ≡ fn ∷ p → (o : Option (Header × List ℕ)) → Leaves p o
         → does (function_query text fn p o) ≡ perform (held_state slc t m log) c (ask_function rs text fn o)
     unfolding function_query obey_step perform bad
-    function_same fn p ef none l = refl
-    function_same fn p ef (some x) (that b) = known (known_function fn)
+    function_same fn p ef None l = refl
+    function_same fn p ef (Some x) (that b) = known (known_function fn)
       where
         datalog : (k : Bool) → does (cond k (plainly wants.Entry) (or_bad (file_query p fn x.0 x.1))) ≡ perform (held_state slc t m log) c (cond k Ask.pop (or_bad_ask (ask_file rs fn x.0 x.1)))
         datalog true = unfold pop_step held_state in refl

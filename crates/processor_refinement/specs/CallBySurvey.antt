@@ -1,6 +1,5 @@
 -- The call, by what the query and the survey tell. Each definition names the one of processor_spec that it refines.
-use Rattle.std.specs.Prelude.{ℕ, Bool, cond, List, leb, length}
-use Rattle.std.proofs.Math.Option.{Option, none, some}
+use Rattle.std.specs.Prelude.{ℕ, Bool, cond, List, leb, length, Option, None, Some}
 use Rattle.processor_spec.specs.declared.Done.{Done}
 use Rattle.processor_spec.specs.declared.Slc.{Slc}
 use Rattle.processor_spec.specs.Frame.{well_formed}
@@ -16,9 +15,9 @@ abbrev pub first_no : Bool → Bool → Bool → Option ℕ
 first_no sound room well =
     cond sound
     (cond room
-    (cond well none (some 18))
-    (some 17))
-    (some 16)
+    (cond well None (Some 18))
+    (Some 17))
+    (Some 16)
 
 -- the same, by whether the state is sound, as the survey tells, by the length of the reply memory and by the command
 unfoldable pub question_of : Bool → ℕ → List ℕ → Option ℕ
@@ -26,8 +25,8 @@ question_of sound room c = first_no sound (leb 514 room) (well_formed c)
 
 -- Step.step, by the answers to its questions: the step behind them, or a refusal
 abbrev pub questioned : Option ℕ → Step → Step
-questioned none x = x
-questioned (some n) x = refuse n
+questioned None x = x
+questioned (Some n) x = refuse n
 
 -- Pccc.pccc_of of a command that doesn't ask for the directory, by the survey and the query
 unfoldable pub respond_of : Slc → Seen → Query → List ℕ → List ℕ → List ℕ → List ℕ → Left Done

@@ -1,7 +1,6 @@
 -- What a well-formed command does, by the query, the survey and the lent memories. Each definition names the one of processor_spec that it
 -- refines, and what tells it; `Refines.antt` shows that a call does the same by either.
-use Rattle.std.specs.Prelude.{ℕ, ◌+◌, ◌*◌, ◌≤◌, ◌≡◌, Bool, ◌&&◌, cond, List, [], ◌∷◌, leb, eqb, length, take, drop}
-use Rattle.std.proofs.Math.Option.{Option, none, some}
+use Rattle.std.specs.Prelude.{ℕ, ◌+◌, ◌*◌, ◌≤◌, ◌≡◌, Bool, ◌&&◌, cond, List, [], ◌∷◌, leb, eqb, length, take, drop, Option, None, Some}
 use Rattle.base.specs.Numbers.{low_first}
 use Rattle.element_text.specs.Text.{fitted}
 use Rattle.processor_spec.specs.declared.Done.{Done}
@@ -52,8 +51,8 @@ pop_step slc log c = popped c (entries slc.log_left (drop slc.log_at log))
 
 -- Step.perform of a read, by the place: bad where there is none
 abbrev pub read_at : Option ℕ → ℕ → List ℕ → List ℕ → Step
-read_at none size memory c = tells_bad c
-read_at (some at) size memory c = tells c 0 (take size (drop at memory))
+read_at None size memory c = tells_bad c
+read_at (Some at) size memory c = tells c 0 (take size (drop at memory))
 
 -- Ask.ask_file of a read, performed: the survey and the query tell the place
 unfoldable pub read_step : Seen → Query → List ℕ → List ℕ → Step
@@ -65,8 +64,8 @@ values_of q c = take q.size (drop q.place (drop 1 (function c)))
 
 -- Step.perform of a write, by the place: bad where there is none
 abbrev pub write_at : Option ℕ → ℕ → List ℕ → List ℕ → List ℕ → Step
-write_at none mask values memory c = tells_bad c
-write_at (some at) mask values memory c = record { answer = replied (framed c 0 []); effect = lays at (masked_at memory at mask values) }
+write_at None mask values memory c = tells_bad c
+write_at (Some at) mask values memory c = record { answer = replied (framed c 0 []); effect = lays at (masked_at memory at mask values) }
 
 -- Ask.ask_file of a write, performed: the survey and the query tell the place, the query the mask and the values
 unfoldable pub write_step : Seen → Query → List ℕ → List ℕ → Step

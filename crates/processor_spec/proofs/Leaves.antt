@@ -1,8 +1,8 @@
 -- What a command, or a building, that is turned away leaves of all that was lent: everything.
+use Rattle.std.specs.Prelude.{Some}
 use Prim.Native.Nat.{ℕ}
 use mathlib.Core.Path.{◌≡◌, ap}
 use mathlib.Core.List.{List}
-use mathlib.Core.Option.{some}
 use lib.ListN.{length}
 use Rattle.base.specs.Put.{put}
 use Rattle.processor_spec.specs.declared.Answered.TheVariants as answered
@@ -32,7 +32,7 @@ module _ (slc : Slc) (table : List FileRecord) (memory log command reply : List 
   status_leaves bs e ne = rw (e, status_keeps (state_of slc table memory log) command (length reply) bs e ne)
 
 -- Building that is refused leaves the table and the data, and gives a processor without files, to which every call says 16.
-module _ (p : Plan) (table : List FileRecord) (memory : List ℕ) (n : ℕ) (e : build_refusal p (length table) (length memory) ≡ some n) where
+module _ (p : Plan) (table : List FileRecord) (memory : List ℕ) (n : ℕ) (e : build_refusal p (length table) (length memory) ≡ Some n) where
   pub building_leaves : new_of p table memory ≡ raised (record { slc = no_slc; made = made.Refused n }) table memory
   unfolding new_of
   building_leaves = rw e

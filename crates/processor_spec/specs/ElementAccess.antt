@@ -1,6 +1,5 @@
 -- Element access (document 01, "Element access").
-use Rattle.std.specs.Prelude.{ℕ, ◌+◌, cond, List, take, drop}
-use Rattle.std.proofs.Math.Option.{Option, none, some}
+use Rattle.std.specs.Prelude.{ℕ, ◌+◌, cond, List, take, drop, Option, None, Some}
 use Rattle.base.specs.Outcome.{Outcome, refused, lays}
 use Rattle.element_spec.specs.Decode.{Says, refuses, decoded}
 use Rattle.element_spec.specs.declared.Value.{Value}
@@ -23,16 +22,16 @@ behind at (refused n) = refused n
 behind at (lays place bs) = lays (at + place) bs
 
 abbrev pub set_at : Option ℕ → FileType → Value → List ℕ → List ℕ → Outcome
-set_at none t v text memory = refused 19
-set_at (some at) t v text memory = behind at (encoded t v text (element_bytes t memory at))
+set_at None t v text memory = refused 19
+set_at (Some at) t v text memory = behind at (encoded t v text (element_bytes t memory at))
 
 -- setting: 16, 19, then 20 to 23 of the element's bytes; what the call does with the data memory
 unfoldable pub set_of : State → FileType → ℕ → ℕ → Value → List ℕ → Outcome
 set_of s t file element v text = cond (sound s) (set_at (element_at s t file element) t v text s.memory) (refused 16)
 
 abbrev pub read_at : Option ℕ → FileType → List ℕ → ℕ → Says
-read_at none t memory room = refuses 19
-read_at (some at) t memory room = decoded t (element_bytes t memory at) room
+read_at None t memory room = refuses 19
+read_at (Some at) t memory room = decoded t (element_bytes t memory at) room
 
 -- reading: 16, 19, then 24 with the room for text
 unfoldable pub read_of : State → FileType → ℕ → ℕ → ℕ → Says

@@ -1,8 +1,8 @@
 -- The pass over the records gives what the definition says, which speaks of the list of records alone.
+use Rattle.std.specs.Prelude.{Option, None, Some}
 use Prim.Native.Nat.{ℕ, suc, ◌+◌, ◌%◌, ◌<◌, ◌≤◌, min}
 use mathlib.Core.Path.{◌≡◌, refl, sym, ap, subst, ◌∙◌}
 use mathlib.Core.List.{List, [], ◌∷◌}
-use mathlib.Core.Option.{Option, none, some}
 use mathlib.Core.Bool.{Bool, true, false, ◌&&◌, cond, false≢true}
 use native.Mathlib.Nat.{zero-add}
 use native.Mathlib.Omega.{arith}
@@ -86,7 +86,7 @@ last_small (r ∷ rs) next at g l =
     last_small rs (suc r.number) (at + r.length) (and_r (follows_of next at r) _ g) (omega (arith, small next at r (and_l _ (good (suc r.number) (at + r.length) rs) g)))
 
 -- numbers ascend, so that a number below is met no more
-absent : (u : ℕ) (rs : List FileRecord) (next at : ℕ) → good next at rs ≡ true → u < next → find u rs ≡ none
+absent : (u : ℕ) (rs : List FileRecord) (next at : ℕ) → good next at rs ≡ true → u < next → find u rs ≡ None
 unfolding good find
 absent u [] next at g l = refl
 absent u (r ∷ rs) next at g l =
@@ -94,8 +94,8 @@ absent u (r ∷ rs) next at g l =
     rw (ne_eqb r.number u (λ e. omega arith)) (absent u rs (suc r.number) (at + r.length) (and_r (follows_of next at r) _ g) (omega arith))
 
 abbrev or_else : Option FileRecord → FileRecord → FileRecord
-or_else none q = q
-or_else (some r) q = r
+or_else None q = q
+or_else (Some r) q = r
 
 module _ (u next at : ℕ) (q r : FileRecord) where
   step_on : follows_of next at r ≡ true → passed_of (pass next at u q) r ≡ pass (suc r.number) (at + r.length) u (cond (eqb r.number u) r q)
@@ -127,7 +127,7 @@ passes u (r ∷ rs) next at q g =
 
     by_test_lem : (b : Bool) → eqb r.number u ≡ b
         → pass (after (suc r.number) rs) (at + r.length + total rs) u (or_else (find u rs) (cond (eqb r.number u) r q))
-        ≡ pass (after (suc r.number) rs) (at + (r.length + total rs)) u (or_else (cond (eqb r.number u) (some r) (find u rs)) q)
+        ≡ pass (after (suc r.number) rs) (at + (r.length + total rs)) u (or_else (cond (eqb r.number u) (Some r) (find u rs)) q)
     by_test_lem true e = rw (e, absent u rs (suc r.number) (at + r.length) rest (omega (arith, eqb-true r.number u e)), sum)
     by_test_lem false e = rw (e, sum)
 
@@ -141,7 +141,7 @@ found_is u n k [] next at g = refl
 found_is u n k (r ∷ rs) next at g = by_test_lem (found_is u n k rs (suc r.number) (at + r.length) (and_r (follows_of next at r) _ g)) (eqb r.number u) refl
   where
     by_test_lem : concluded n k u (or_none (find u rs)) ≡ seen n k u (there (find u rs)) (or_none (find u rs)) → (b : Bool) → eqb r.number u ≡ b
-        → concluded n k u (or_none (cond (eqb r.number u) (some r) (find u rs))) ≡ seen n k u (there (cond (eqb r.number u) (some r) (find u rs))) (or_none (cond (eqb r.number u) (some r) (find u rs)))
+        → concluded n k u (or_none (cond (eqb r.number u) (Some r) (find u rs))) ≡ seen n k u (there (cond (eqb r.number u) (Some r) (find u rs))) (or_none (cond (eqb r.number u) (Some r) (find u rs)))
     by_test_lem ih true e =
         let is : u ≡ r.number = sym (eqb-true r.number u e) in
         rw (e, ne_eqb r.code 0 (known next at r (and_l _ (good (suc r.number) (at + r.length) rs) g)))
@@ -176,8 +176,8 @@ fails u (r ∷ rs) next at q g = by_test_lem (fails u rs (suc r.number) (at + r.
 -- ---- the definition
 
 or_none_lem : (o : Option FileRecord) → or_else o no_record ≡ or_none o
-or_none_lem none = refl
-or_none_lem (some r) = refl
+or_none_lem None = refl
+or_none_lem (Some r) = refl
 
 -- over records, of which there is one
 told : (u : ℕ) (rs : List FileRecord) → 0 < length rs → concluded_of (folded passed_of rs (pass 0 0 u no_record)) ≡ cond (good_table rs) (told_of u rs) (lost_of u)

@@ -1,6 +1,5 @@
 -- What one pass over the file records tells.
-use Rattle.std.specs.Prelude.{ℕ, suc, Bool, true, false, ◌&&◌, cond, List, leb, length, take}
-use Rattle.std.proofs.Math.Option.{Option, none, some}
+use Rattle.std.specs.Prelude.{ℕ, suc, Bool, true, false, ◌&&◌, cond, List, leb, length, take, Option, None, Some}
 use Rattle.processor_spec.specs.declared.FileRecord.{FileRecord}
 use Rattle.processor_spec.specs.Directory.{last_number}
 use Rattle.processor_spec.specs.Files.{find}
@@ -11,12 +10,12 @@ abbrev pub no_record : FileRecord
 no_record = record { number = 0; code = 0; start = 0; length = 0 }
 
 abbrev pub there : Option FileRecord → Bool
-there none = false
-there (some r) = true
+there None = false
+there (Some r) = true
 
 abbrev pub or_none : Option FileRecord → FileRecord
-or_none none = no_record
-or_none (some r) = r
+or_none None = no_record
+or_none (Some r) = r
 
 -- what sound records tell, with the record of a number that is sought
 unfoldable pub told_of : ℕ → List FileRecord → Seen

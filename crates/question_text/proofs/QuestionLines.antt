@@ -1,7 +1,7 @@
 -- The questions as the lines of one text: line n has the text of number n, of at most 96 bytes, and every other line is empty.
+use Rattle.std.specs.Prelude.{Option, None, Some}
 use Prim.Native.Nat.{ℕ, zero, suc, ◌+◌, ◌-◌, ◌≤◌, ◌<◌}
 use mathlib.Core.Path.{◌≡◌, refl, ap, sym, subst, ◌∙◌}
-use mathlib.Core.Option.{Option, none, some}
 use mathlib.Core.Bool.{Bool, true, ◌&&◌}
 use mathlib.Core.List.{List, [], ◌∷◌, ◌++◌}
 use native.Mathlib.Omega.{arith}
@@ -33,10 +33,10 @@ lines_of k (row ∷ rows) = before_all (row.0 - k) [] (row.1 ∷ lines_of (suc r
 
 -- what a line says
 abbrev said : List ℕ → Option (List ℕ)
-said [] = none
-said (b ∷ s) = some (b ∷ s)
+said [] = None
+said (b ∷ s) = Some (b ∷ s)
 
-says : (s : List ℕ) → 0 < length s → some s ≡ said s
+says : (s : List ℕ) → 0 < length s → Some s ≡ said s
 says [] h = absurd (omega arith)
 says (b ∷ s) h = refl
 
@@ -57,7 +57,7 @@ module _ (k : ℕ) (row : ℕ × List ℕ) (rows : List (ℕ × List ℕ)) (t : 
   short_text = leb→le (length row.1) 96 (and_yes (ltb 0 (length row.1)) (leb (length row.1) 96) lengths.1).1
 
 -- a number before all rows has no text
-no_row : (k : ℕ) (rows : List (ℕ × List ℕ)) → T (right k rows) → (n : ℕ) → n < k → text_in rows n ≡ none
+no_row : (k : ℕ) (rows : List (ℕ × List ℕ)) → T (right k rows) → (n : ℕ) → n < k → text_in rows n ≡ None
 no_row k [] t n h = refl
 no_row k (row ∷ rows) t n h =
     let a : k ≤ row.0 = ascends k row rows t in
@@ -130,8 +130,8 @@ module _ (n : ℕ) {s : List ℕ} (e : s ≡ part_at 10 n lines) where
       go [] h = record { answer = refl; memory = refl }
       go (b ∷ s) h = absurd (omega arith)
 
-  pub question_told : {l m : List ℕ} {r : StatusText} → 0 < length s → Tells (some (take 96 s)) l r m → Tells (question_of n) l r m
+  pub question_told : {l m : List ℕ} {r : StatusText} → 0 < length s → Tells (Some (take 96 s)) l r m → Tells (question_of n) l r m
   question_told {l} {m} {r} h w =
       let f : length s ≤ 96 = subst (λ (x : List ℕ). length x ≤ 96) (sym line) (line_fits n) in
-      let g : some s ≡ said s = says s h in
-      subst (λ (x : Option (List ℕ)). Tells x l r m) (g ∙ sym question_is) (subst (λ (x : List ℕ). Tells (some x) l r m) (take_all 96 s f) w)
+      let g : Some s ≡ said s = says s h in
+      subst (λ (x : Option (List ℕ)). Tells x l r m) (g ∙ sym question_is) (subst (λ (x : List ℕ). Tells (Some x) l r m) (take_all 96 s f) w)

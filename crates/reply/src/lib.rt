@@ -2,7 +2,6 @@
 #![tactic(auto)]
 
 ghost use Rattle.std.specs.Prelude.{◌≡◌, ◌+◌, ◌<◌, ◌≤◌, length};
-ghost use Rattle.std.proofs.Math.Option.{some};
 ghost use Rattle.base.specs.Chars.{bytes};
 ghost use Rattle.base.specs.Put.{Wrote};
 ghost use Rattle.reply_status_text.specs.Texts.{Tells};
@@ -30,7 +29,7 @@ fn lay_hex(out: &mut [u8], at: usize, before: &[u8], b: u8) -> usize
 
 // A status without a text, as a number.
 fn unknown(status: u8, out: &mut [u8]) -> StatusText
-    ensures { Tells (some (in_hex (bytes "Unknown Status (0x") status)) out.old result out.new }
+    ensures { Tells (Some (in_hex (bytes "Unknown Status (0x") status)) out.old result out.new }
 {
     if out.len() < ROOM {
         return StatusText::Refused(6);
@@ -40,7 +39,7 @@ fn unknown(status: u8, out: &mut [u8]) -> StatusText
 
 // The status F0, with the extended status where the reply has one.
 fn extended(extension: &[u8], out: &mut [u8]) -> StatusText
-    ensures { Tells (said (some 0xF0) (first extension.now)) out.old result out.new }
+    ensures { Tells (said (Some 0xF0) (first extension.now)) out.old result out.new }
 {
     let text = reply_status_text::pccc_error_text(0xF0, out);
     if extension.len() == 0 {

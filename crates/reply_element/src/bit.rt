@@ -1,6 +1,5 @@
 // A bit of a word or a long, which needs no output.
 ghost use Rattle.std.specs.Prelude.{◌≡◌, [], ◌∷◌};
-ghost use Rattle.std.proofs.Math.Option.{some};
 ghost use Rattle.reply_values_spec.specs.Values.{asked, alone, decoded, reply_of, bit_at, bit_of, bit};
 
 use reply_values_spec::{DataType, ReadReply, ReplyValue};
@@ -20,7 +19,7 @@ pub fn get_bit(value: i64, idx: u32) -> bool
 
 // The only value.
 fn only(value: i64, sub: u16, index: usize) -> ReadReply
-    ensures { result ≡ reply_of (asked index 0 (some (bit (bit_at sub value) ∷ []))) }
+    ensures { result ≡ reply_of (asked index 0 (Some (bit (bit_at sub value) ∷ []))) }
 {
     if 0 < index {
         return ReadReply::Refused(28);

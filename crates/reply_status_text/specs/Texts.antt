@@ -1,6 +1,5 @@
 -- The text of a status code, and what a call answers that has a text to say (document 01, module 4).
-use Rattle.std.specs.Prelude.{ℕ, ◌≡◌, cond, List, [], ◌∷◌, eqb, ltb, length}
-use Rattle.std.proofs.Math.Option.{Option, none, some}
+use Rattle.std.specs.Prelude.{ℕ, ◌≡◌, cond, List, [], ◌∷◌, eqb, ltb, length, Option, None, Some}
 use Rattle.base.specs.Chars.{bytes}
 use Rattle.base.specs.Outcome.{Outcome, refused, lays, left}
 use Rattle.reply_status_text.specs.declared.StatusText.{StatusText}
@@ -22,8 +21,8 @@ texts =
     ∷ []
 
 abbrev pub text_in : List (ℕ × List ℕ) → ℕ → Option (List ℕ)
-text_in [] status = none
-text_in (row ∷ rows) status = cond (eqb row.0 status) (some row.1) (text_in rows status)
+text_in [] status = None
+text_in (row ∷ rows) status = cond (eqb row.0 status) (Some row.1) (text_in rows status)
 
 -- the text of a status code; most codes have none
 unfoldable pub text_of : ℕ → Option (List ℕ)
@@ -39,12 +38,12 @@ status_of (refused n) = statusText·.Refused n
 status_of (lays at bs) = statusText·.Written (length bs)
 
 abbrev pub answer_of : Option (List ℕ) → List ℕ → StatusText
-answer_of none l = statusText·.Nothing
-answer_of (some text) l = status_of (saying text l)
+answer_of None l = statusText·.Nothing
+answer_of (Some text) l = status_of (saying text l)
 
 abbrev pub left_of : Option (List ℕ) → List ℕ → List ℕ
-left_of none l = l
-left_of (some text) l = left (saying text l) l
+left_of None l = l
+left_of (Some text) l = left (saying text l) l
 
 pub record Tells (text : Option (List ℕ)) (l : List ℕ) (r : StatusText) (l' : List ℕ) : Type 0 where
   pub answer : r ≡ answer_of text l

@@ -1,7 +1,6 @@
 // The texts of the status codes of a reply, and how a text is said.
 #![tactic(auto)]
 
-ghost use Rattle.std.proofs.Math.Option.{some};
 ghost use Rattle.std.specs.Prelude.{take};
 ghost use Rattle.reply_status_text.specs.Texts.{text_of, Tells};
 
@@ -18,7 +17,7 @@ pub enum StatusText {
 
 // Says a text; of one above 96 bytes the first 96. Refused with 6.
 pub fn say(text: &[u8], out: &mut [u8]) -> StatusText
-    ensures { Tells (some (take 96 text.now)) out.old result out.new }
+    ensures { Tells (Some (take 96 text.now)) out.old result out.new }
 {
     if out.len() < ROOM {
         return StatusText::Refused(6);

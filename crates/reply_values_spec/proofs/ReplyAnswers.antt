@@ -1,9 +1,9 @@
 -- What the call says, one law for each answer.
+use Rattle.std.specs.Prelude.{Option, None, Some}
 use Prim.Native.Nat.{ℕ, zero, suc, ◌+◌, ◌-◌, ◌*◌, ◌/◌, ◌%◌, ◌≤◌, ◌<◌, min}
 use mathlib.Core.Path.{◌≡◌, refl, ap, sym, subst, ◌∙◌}
 use mathlib.Core.Bool.{Bool, true, false, not, ◌&&◌, cond, false≢true}
 use mathlib.Core.List.{List, [], ◌∷◌, map}
-use mathlib.Core.Option.{Option, none, some}
 use native.Mathlib.Nat.{mul-le-mul_right, suc-mul, div-le_self, div-mul-le_self, div-add-mod', mod-lt, lt-div-mul-add}
 use native.Mathlib.Omega.{arith}
 use borrow.Author.Tests.{leb-true, leb-false, eq-eqb, ne_eqb, not-true, not-false}
@@ -29,17 +29,17 @@ use Rattle.reply_values_spec.specs.Values.{Value, word, long, float, bit, text, 
 use Rattle.reply_values_spec.proofs.InParts.{one_part_lem, is_decoded, has_value, past_last, Collected, each_of, all_of, collected, cut_last}
 
 -- ---- refused, without a store
-refused_27 : (o : Option (List Value)) (i : ℕ) (l : List ℕ) → o ≡ none → Reads (asked i (length l) o) l (reply.Refused 27) l
+refused_27 : (o : Option (List Value)) (i : ℕ) (l : List ℕ) → o ≡ None → Reads (asked i (length l) o) l (reply.Refused 27) l
 refused_27 o i l e = rw e (record { answer = refl; memory = refl })
 
-refused_28 : (o : Option (List Value)) (vs : List Value) (i : ℕ) (l : List ℕ) → o ≡ some vs → length vs ≤ i → Reads (asked i (length l) o) l (reply.Refused 28) l
+refused_28 : (o : Option (List Value)) (vs : List Value) (i : ℕ) (l : List ℕ) → o ≡ Some vs → length vs ≤ i → Reads (asked i (length l) o) l (reply.Refused 28) l
 refused_28 o vs i l e h = rw (e, past_last vs i h) (record { answer = refl; memory = refl })
 
 -- ---- in parts
 module _ (k : DataType) (size : ℕ) (s : List ℕ) (i : ℕ) (l : List ℕ) where
   pub parts_none : length s ≡ 0 → Reads (asked i (length l) (at_least_one (collect (map (decoded k) (parts size s))))) l (reply.Refused 27) l
   unfolding parts_in collect
-  parts_none e = let z : at_least_one (collect (map (decoded k) (parts size s))) ≡ none = rw e in refused_27 _ i l z
+  parts_none e = let z : at_least_one (collect (map (decoded k) (parts size s))) ≡ None = rw e in refused_27 _ i l z
 
   module _ (not_None : length s ≡ 0 → ⊥) (least_size : 1 ≤ size) (most : size ≤ 84) where
     some_there : 0 < length s
@@ -68,11 +68,11 @@ module _ (k : DataType) (size : ℕ) (s : List ℕ) (i : ℕ) (l : List ℕ) whe
       all_there : Collected (all_of k size (length s) s) (suc ((length s - 1) / size)) (each_of k size s)
       all_there = collected k size most ((length s - 1) / size) (length s) s least_size (omega (arith, at_last, some_there)) up_to_last (omega arith) (omega (arith, rest))
 
-      whole : (vs : List Value) → 0 < length vs → at_least_one (some vs) ≡ some vs
+      whole : (vs : List Value) → 0 < length vs → at_least_one (Some vs) ≡ Some vs
       whole [] q = absurd (omega arith)
       whole (v ∷ vs) q = refl
 
-      there : at_least_one (all_of k size (length s) s) ≡ some all_there.all
+      there : at_least_one (all_of k size (length s) s) ≡ Some all_there.all
       there = ap at_least_one all_there.is ∙ whole all_there.all (omega (arith, all_there.count))
 
       pub parts_past : (length s - 1) / size < i → Reads (asked i (length l) (at_least_one (collect (map (decoded k) (parts size s))))) l (reply.Refused 28) l
@@ -113,8 +113,8 @@ module _ (k : DataType) (size : ℕ) (s : List ℕ) (i : ℕ) (l : List ℕ) whe
             let v : value_at i all_there.all ≡ value_of k p = all_there.its i (omega arith) ∙ ap (decoded k) (sym d) ∙ is_decoded k p (part_least d) in
             let g : least k ≤ length p = part_least d in
             let f : length p ≤ 84 = rw d (omega (arith, length-take size (drop (i * size) s))) in
-            let u : (u : Value) × (value_of k p ≡ some u) = has_value k p (omega arith) in
-            let w' : Reads (one_part (length l) ((length s - 1) / size + 1) (some u.0)) l r m = subst (λ (o : Option Value). Reads (one_part (length l) ((length s - 1) / size + 1) o) l r m) u.1 w in
+            let u : (u : Value) × (value_of k p ≡ Some u) = has_value k p (omega arith) in
+            let w' : Reads (one_part (length l) ((length s - 1) / size + 1) (Some u.0)) l r m = subst (λ (o : Option Value). Reads (one_part (length l) ((length s - 1) / size + 1) o) l r m) u.1 w in
             rw (there, c, v, u.1) w'
 
 -- ---- by the address
@@ -135,14 +135,14 @@ module _ (t : FileType) (sub : ℕ) where
 -- a bit needs no output and changes none
 bit_reads : (sub i room : ℕ) (o : Option Value) (l : List ℕ) → Reads (asked i room (alone (bit_of sub o))) l (reply_of (asked i 0 (alone (bit_of sub o)))) l
 unfolding value_at
-bit_reads sub i room none l = record { answer = refl; memory = refl }
-bit_reads sub zero room (some (word z)) l = record { answer = refl; memory = refl }
-bit_reads sub (suc i) room (some (word z)) l = record { answer = refl; memory = refl }
-bit_reads sub zero room (some (long z)) l = record { answer = refl; memory = refl }
-bit_reads sub (suc i) room (some (long z)) l = record { answer = refl; memory = refl }
-bit_reads sub i room (some (float b)) l = record { answer = refl; memory = refl }
-bit_reads sub i room (some (bit b)) l = record { answer = refl; memory = refl }
-bit_reads sub i room (some (text x)) l = record { answer = refl; memory = refl }
+bit_reads sub i room None l = record { answer = refl; memory = refl }
+bit_reads sub zero room (Some (word z)) l = record { answer = refl; memory = refl }
+bit_reads sub (suc i) room (Some (word z)) l = record { answer = refl; memory = refl }
+bit_reads sub zero room (Some (long z)) l = record { answer = refl; memory = refl }
+bit_reads sub (suc i) room (Some (long z)) l = record { answer = refl; memory = refl }
+bit_reads sub i room (Some (float b)) l = record { answer = refl; memory = refl }
+bit_reads sub i room (Some (bit b)) l = record { answer = refl; memory = refl }
+bit_reads sub i room (Some (text x)) l = record { answer = refl; memory = refl }
 
 -- a bit is asked, and not PRE or ACC
 module _ (t : FileType) (flag : Bool) (sub : ℕ) where
@@ -189,8 +189,8 @@ word_alone size [] h = none_alone size
 word_alone size (b ∷ w) h = ap (λ (ps : List (List ℕ)). at_least_one (collect (map (decoded Int) ps))) (one_part_lem size (b ∷ w) (omega arith) h) ∙ go (decoded Int (b ∷ w))
   where
     go : (o : Option Value) → at_least_one (collect (o ∷ [])) ≡ alone o
-    go none = refl
-    go (some v) = refl
+    go None = refl
+    go (Some v) = refl
 
 module _ (t : FileType) (flag : Bool) (sub : ℕ) (s : List ℕ) (i : ℕ) (l : List ℕ) {b : Bool} (a : b ≡ (flag && eqb (word_place t sub) 0)) {k : DataType} {size : ℕ} (e : k ≡ data_type t)
     (z : size ≡ (row t).size) {r : ReadReply} where

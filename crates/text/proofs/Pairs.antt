@@ -1,9 +1,9 @@
 -- Laws of hexadecimal text.
+use Rattle.std.specs.Prelude.{None, Some}
 use Prim.Native.Nat.{ℕ, zero, suc, ◌+◌, ◌*◌, ◌-◌, ◌/◌, ◌%◌, ◌≤◌, ◌<◌}
 use mathlib.Core.Path.{◌≡◌, refl, ap, ap₂, sym, ◌∙◌}
 use mathlib.Core.List.{List, [], ◌∷◌}
 use mathlib.Core.Bool.{Bool, true, false, cond, ◌&&◌, true≢false}
-use mathlib.Core.Option.{none, some}
 use native.Mathlib.Omega.{arith}
 use lib.Dec.{ltb, leb, eqb, leb-zero}
 use lib.ListN.{length, take, drop, get_or, set, length-set, drop_of_length-le}
@@ -195,7 +195,7 @@ module _ (s : List ℕ) where
     pub text_room : (out : List ℕ) → length s / 2 ≤ length out → length s ≤ 2 * length out
     text_room out g = omega (arith, text_even)
 
-    text_bytes : unhexed s ≡ some (pairs s)
+    text_bytes : unhexed s ≡ Some (pairs s)
     unfolding unhexed
     text_bytes = rw h
 
@@ -223,7 +223,7 @@ module _ (s : List ℕ) where
         record {
           fits = omega (arith, wrote_length w room, w.end);
           counts = sym (ap length first ∙ omega (arith, w.end));
-          right = rw (text_bytes, e) (ap some first);
+          right = rw (text_bytes, e) (ap Some first);
           kept = ap₂ drop w.end w.now ∙ put_behind out 0 (pairs s) room ∙ ap (λ (k : ℕ). drop k out) (sym w.end);
           refused = λ z. absurd (true≢false z);
         }
@@ -235,6 +235,6 @@ pub unhex_other : (s out : List ℕ) (t u : Bool) → u ≡ hex_text s → u ≡
 unfolding unhexed fitting
 unhex_other s out t u f h e = record { fits = omega arith; counts = refl; right = rw (← f, h, ← e) (go t); kept = refl; refused = λ _. (refl, refl) }
   where
-    go : (b : Bool) → bytes_of b [] ≡ fitting (length out) (cond b (some []) none)
+    go : (b : Bool) → bytes_of b [] ≡ fitting (length out) (cond b (Some []) None)
     go true = rw (leb-zero (length out))
     go false = refl

@@ -1,6 +1,5 @@
 -- Bytes as hexadecimal text.
-use Rattle.std.specs.Prelude.{ℕ, ◌+◌, ◌*◌, ◌-◌, ◌/◌, ◌%◌, ◌≤◌, ◌≡◌, List, [], ◌∷◌, Bool, true, false, cond, ◌&&◌, ltb, leb, eqb, length, take, drop}
-use Rattle.std.proofs.Math.Option.{Option, none, some}
+use Rattle.std.specs.Prelude.{ℕ, ◌+◌, ◌*◌, ◌-◌, ◌/◌, ◌%◌, ◌≤◌, ◌≡◌, List, [], ◌∷◌, Bool, true, false, cond, ◌&&◌, ltb, leb, eqb, length, take, drop, Option, None, Some}
 use Rattle.text.specs.Line.{same}
 use Rattle.text.specs.declared.hex.Long.{Long}
 use Rattle.text.specs.declared.hex.Bytes.{Bytes}
@@ -39,17 +38,17 @@ pairs (a ∷ b ∷ s) = (nibble a * 16 + nibble b) ∷ pairs s
 
 -- the bytes of a byte string, where a text is one: a byte for each two digits, and none at all for `-`
 unfoldable pub unhexed : List ℕ → Option (List ℕ)
-unhexed s = cond (hex_text s) (some (pairs s)) (cond (same s (45 ∷ [])) (some []) none)
+unhexed s = cond (hex_text s) (Some (pairs s)) (cond (same s (45 ∷ [])) (Some []) None)
 
 -- the bytes, where they fit in so much room
 unfoldable pub fitting : ℕ → Option (List ℕ) → Option (List ℕ)
-fitting room none = none
-fitting room (some bs) = cond (leb (length bs) room) (some bs) none
+fitting room None = None
+fitting room (Some bs) = cond (leb (length bs) room) (Some bs) None
 
 -- what an answer with its memory stands for
 abbrev pub bytes_of : Bool → List ℕ → Option (List ℕ)
-bytes_of true bs = some bs
-bytes_of false bs = none
+bytes_of true bs = Some bs
+bytes_of false bs = None
 
 -- a byte string was read into a memory `out`, which left `out'`: its bytes are the first `n`, and nothing behind them changed;
 -- where it could not be read, nothing changed at all

@@ -1,9 +1,9 @@
 -- The closed-file rule: one command, by what it asks, and then the whole list.
+use Rattle.std.specs.Prelude.{Some}
 use Prim.Native.Nat.{ℕ, ◌-◌}
 use mathlib.Core.Path.{◌≡◌, refl, sym, ap, ap₂, subst, subst₂, ◌∙◌}
 use mathlib.Core.Bool.{Bool, true, false, false≢true, cond}
 use mathlib.Core.List.{List, [], ◌∷◌}
-use mathlib.Core.Option.{some}
 use native.Mathlib.Decide.{ℕ_discrete}
 use lib.Dec.{leb}
 use lib.ListN.{length, take, drop}
@@ -73,7 +73,7 @@ module _ (closed : ℕ → Bool) (a b : State) (ha : sound a ≡ true) (hb : sou
     abbrev across : Inside b.records n at size
     across = record {
       file = i.file;
-      found = subst (λ (rs : List FileRecord). find n rs ≡ some i.file) same_records i.found;
+      found = subst (λ (rs : List FileRecord). find n rs ≡ Some i.file) same_records i.found;
       from = i.from;
       upto = i.upto;
     }

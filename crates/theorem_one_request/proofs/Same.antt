@@ -1,10 +1,10 @@
 -- A message tells its elements (request_spec/ElementsTold), for an accepted address has numbers that its fields hold.
+use Rattle.std.specs.Prelude.{Option, None, Some}
 use Prim.Native.Nat.{ℕ, ◌+◌, ◌<◌}
 use mathlib.Core.Path.{◌≡◌, refl, ap, ap₂, sym, subst, ◌∙◌}
 use mathlib.Core.Logic.{◌↔◌}
 use mathlib.Core.Bool.{Bool, true, false, ◌&&◌, cond}
 use mathlib.Core.List.{List, [], ◌++◌}
-use mathlib.Core.Option.{Option, none, some}
 use native.Mathlib.Omega.{arith}
 use lib.Dec.{leb}
 use lib.ListN.{length, take, drop, take-append-drop}
@@ -45,8 +45,8 @@ unfolding address_of
 some_number tag = go (leb (length tag) 255 && well_formed tag) (form_of utf8 separates tag)
   where
     go : (b : Bool) (f : Option Address) → Some (cond b (accepted f) (parsed.Refused 1))
-    go true none = omega arith
-    go true (some x) = tt
+    go true None = omega arith
+    go true (Some x) = tt
     go false f = omega arith
 
 some_number_in : (tag : List ℕ) (ρ : Reading) → Some (address_in ρ tag)
