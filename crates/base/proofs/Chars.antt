@@ -45,17 +45,3 @@ module _ (any_case : Bool) where
           let k : i < length s = omega arith in
           let x : eqb (letter any_case (get_or s i 0)) (get_or name i 0) ≡ true = eq-eqb _ _ (sym g ∙ n) in
           sym (ap (λ (t : Bool). t && spelled any_case (drop (i + 1) name) (drop (i + 1) s)) x) ∙ sym (spelled_step h k) ∙ inv
-
--- a byte as it is compared
-module _ (any_case : Bool) (b : ℕ) where
-  pub letter_exact : not any_case ≡ true → b ≡ letter any_case b
-  letter_exact e = rw (not-true any_case e)
-
-  pub letter_low : not any_case ≡ false → b < 97 → b ≡ letter any_case b
-  letter_low e h = rw (not-false any_case e, lt-leb 97 b h)
-
-  pub letter_high : not any_case ≡ false → 122 < b → b ≡ letter any_case b
-  letter_high e h = let k : 97 ≤ b = omega arith in rw (not-false any_case e, le-leb 97 b k, lt-leb b 122 h)
-
-  pub letter_small : not any_case ≡ false → 97 ≤ b → b ≤ 122 → b - 32 ≡ letter any_case b
-  letter_small e h k = rw (not-false any_case e, le-leb 97 b h, le-leb b 122 k)

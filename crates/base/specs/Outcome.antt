@@ -1,7 +1,7 @@
 -- What a call does with lent memory: "A numbered refusal returns only that number and changes no lent memory. A success writes its stated
 -- bytes and nothing behind them."
 use Rattle.std.specs.Prelude.{ℕ, List}
-use Rattle.base.specs.declared.Refusal.{Refusal}
+use Rattle.base.specs.declared.refusal.Refusal.{Refusal}
 use Rattle.base.specs.Put.{put}
 
 -- a refusal, or bytes laid from a place on

@@ -1,7 +1,7 @@
 -- The numbers of the questions ("Questions put to each call": "The first \"no\" gives the number").
 use Rattle.std.specs.Prelude.{ℕ}
-use Rattle.base.specs.declared.Refusal.{Refusal}
-use Rattle.base.specs.declared.Refusal.TheVariants.{MalformedTag, NotAnAddress, BitWithCount, UnsuitableValue, SizeOutOfRange, ShortOutput, LongDirectory, NoRowSize, CutRow, MoreFilesThanRoom, UnknownFileType, UnusableFileNumber, UnusableTypeText, FilesBeyondRoom, UnusableDatalog, Unsound, ShortReplyMemory, MalformedCommand, NoSuchElement, UnsuitableKind, UnknownField, NumberOutOfRange, LongText, ShortTextMemory, ShortReply, OffsetOutOfRange, UnreadableReply, NoSuchValue, RetiredSeparator}
+use Rattle.base.specs.declared.refusal.Refusal.{Refusal}
+use Rattle.base.specs.declared.refusal.Refusal.TheVariants.{MalformedTag, NotAnAddress, BitWithCount, UnsuitableValue, SizeOutOfRange, ShortOutput, LongDirectory, NoRowSize, CutRow, MoreFilesThanRoom, UnknownFileType, UnusableFileNumber, UnusableTypeText, FilesBeyondRoom, UnusableDatalog, Unsound, ShortReplyMemory, MalformedCommand, NoSuchElement, UnsuitableKind, UnknownField, NumberOutOfRange, LongText, ShortTextMemory, ShortReply, OffsetOutOfRange, UnreadableReply, NoSuchValue, RetiredSeparator}
 
 abbrev pub number_of : Refusal → ℕ
 -- address text, read and write

@@ -104,6 +104,7 @@ pub fn mixed(mask: u16, old: u16, value: u16) -> u16
 }
 
 // The mask of a bit, to be held to the manual's word drawings; 0 where a word has no such bit.
+#[tactic(auto, using(crate::proofs::Masks::mask_there))]
 pub fn bit_mask(b: usize) -> u16
     ensures { result ≡ bit_mask b }
 {
