@@ -4,7 +4,7 @@ use mathlib.Core.Path.{◌≡◌, refl, ap, sym, ◌∙◌}
 use mathlib.Core.List.{List, [], ◌∷◌}
 use mathlib.Core.Bool.{Bool, true, false, not, ◌&&◌}
 use native.Mathlib.Omega.{arith}
-use borrow.Author.Tests.{eq-eqb, ne_eqb, lt-leb, le-leb, not-true, not-false}
+use borrow.Author.Tests.{eq-eqb, ne_eqb, lt-leb, le-leb, not-false}
 use lib.Dec.{eqb}
 use lib.ListN.{length, drop, get_or, drop_of_length-le}
 use Rattle.base.specs.Chars.{letter, spelled}
@@ -45,3 +45,14 @@ module _ (any_case : Bool) where
           let k : i < length s = omega arith in
           let x : eqb (letter any_case (get_or s i 0)) (get_or name i 0) ≡ true = eq-eqb _ _ (sym g ∙ n) in
           sym (ap (λ (t : Bool). t && spelled any_case (drop (i + 1) name) (drop (i + 1) s)) x) ∙ sym (spelled_step h k) ∙ inv
+
+-- a byte as it is compared
+module _ (any_case : Bool) (b : ℕ) where
+  pub letter_low : not any_case ≡ false → b < 97 → b ≡ letter any_case b
+  letter_low e h = rw (not-false any_case e, lt-leb 97 b h)
+
+  pub letter_high : not any_case ≡ false → 122 < b → b ≡ letter any_case b
+  letter_high e h = let k : 97 ≤ b = omega arith in rw (not-false any_case e, le-leb 97 b k, lt-leb b 122 h)
+
+  pub letter_small : not any_case ≡ false → 97 ≤ b → b ≤ 122 → b - 32 ≡ letter any_case b
+  letter_small e h k = rw (not-false any_case e, le-leb 97 b h, le-leb b 122 k)
