@@ -8,7 +8,6 @@ use borrow.Author.Tests.{eqb-true, leb-true}
 use lib.Dec.{eqb, leb}
 use lib.ListN.{length}
 use lib.Seq.{length-take-le}
-use Rattle.parser_spec.specs.Parts.{then}
 use Rattle.parser_spec.proofs.Held.{Holds, nothing, that, weaker, and_next, and_any}
 use Rattle.directory_sys0.specs.declared.Sys0Info.{Sys0Info}
 use Rattle.directory_sys0.specs.Families.{sys0}

@@ -10,6 +10,8 @@ use lib.Dec.{leb, ltb, lit≤}
 use lib.IntN.{ℤ}
 use lib.ListN.{length, length-append}
 use Rattle.base.specs.Numbers.{low_first}
+use Rattle.base.specs.declared.refusal.Refusal.{Refusal}
+use Rattle.base.specs.declared.refusal.Refusal.TheVariants.{Unsound}
 use Rattle.base.specs.Outcome.{Outcome, refused, lays}
 use Rattle.base.proofs.Numbers.{low_length}
 use Rattle.element_spec.specs.declared.Value.{Value}
@@ -113,7 +115,7 @@ unfolding encoded
 encoded_in_lem t v text old = cases (In (row t).size) (ltb (length old) (row t).size) _ _ (λ _. tt) (λ _. type_in t v text old)
 
 module _ (s : State) (t : FileType) (file element : ℕ) (v : Value) (text : List ℕ) (at : ℕ) (bs : List ℕ) (done : set_of s t file element v text ≡ lays at bs) where
-  no_write : {X : Type 0} {n : ℕ} → refused n ≡ lays at bs → X
+  no_write : {X : Type 0} {n : Refusal} → refused n ≡ lays at bs → X
   no_write e = let z : ◌≡◌ {A = ℕ} 0 1 = cc in absurd (omega arith)
 
   -- what is set lies in the file, of a sound state
@@ -129,7 +131,7 @@ module _ (s : State) (t : FileType) (file element : ℕ) (v : Value) (text : Lis
           let ec : length cs ≡ length bs = let x : cs ≡ bs = cc in ap length x in
           record { file = i.file; found = i.found; from = omega (arith, i.from); upto = omega (arith, i.upto) }
 
-      go : (b : Bool) → sound s ≡ b → (o : Option ℕ) → element_at s t file element ≡ o → cond b (set_at o t v text s.memory) (refused 16) ≡ lays at bs
+      go : (b : Bool) → sound s ≡ b → (o : Option ℕ) → element_at s t file element ≡ o → cond b (set_at o t v text s.memory) (refused Unsound) ≡ lays at bs
           → (sound s ≡ true) × Inside s.records file at (length bs)
       go false h o e q = no_write q
       go true h None e q = no_write q

@@ -1,5 +1,5 @@
 -- Building gives a sound state, with the files that were wanted.
-use Rattle.std.specs.Prelude.{Option, None, Some}
+use Rattle.std.specs.Prelude.{Option, None, Some, Ok}
 use Prim.Native.Nat.{ℕ, zero, suc, ◌+◌, ◌-◌, ◌*◌, ◌%◌, ◌≤◌, ◌<◌}
 use mathlib.Core.Path.{◌≡◌, refl, sym, ap, subst, ◌∙◌}
 use mathlib.Core.Bool.{Bool, true, false, not, ◌&&◌, cond}
@@ -11,13 +11,14 @@ use borrow.Author.Tests.{eqb-true, eq-eqb, ne_eqb, leb-true, le-leb, lt-ltb}
 use lib.Dec.{leb, ltb, eqb}
 use lib.ListN.{length, take, drop, replicate, length-append, length-drop, length-replicate}
 use lib.Seq.{take_at, take_all}
+use Rattle.base.specs.declared.refusal.Refusal.{Refusal}
+use Rattle.base.specs.declared.refusal.Refusal.TheVariants.{UnknownFileType, UnusableFileNumber, UnusableTypeText, FilesBeyondRoom, UnusableDatalog}
 use Rattle.base.specs.Put.{put}
 use Rattle.base.proofs.Put.{put_length}
 use Rattle.parser_spec.proofs.Held.{no_some}
 use Rattle.element_text.specs.Text.{fitted}
 use Rattle.file_type.specs.Table.{element_size}
 use Rattle.processor_spec.specs.declared.FileRecord.{FileRecord}
-use Rattle.processor_spec.specs.declared.Made.TheVariants as made
 use Rattle.processor_spec.specs.Build.{Wanted, wanted, defaults, or_defaults, wanted_with, has, file_refusal, record_at, lay, records_from, records_of, Plan, planned, fits, log_fits, or_then, build_refusal, slc_of, raise, new_of}
 use Rattle.processor_spec.specs.Files.{shape, find}
 use Rattle.processor_spec.specs.Plain.{entries, holds, within, held_state, state_of}
@@ -47,7 +48,7 @@ module _ (seen : List ℕ) (w : Wanted) (ws : List Wanted) where
   first_accepted e = go (known_code w.code) refl (leb w.number 255 && not (has w.number seen)) refl e
     where
       go : (b : Bool) → known_code w.code ≡ b → (d : Bool) → (leb w.number 255 && not (has w.number seen)) ≡ d
-          → cond b (cond d (file_refusal (w.number ∷ seen) ws) (Some 12)) (Some 11) ≡ None → Accepted w × (file_refusal (w.number ∷ seen) ws ≡ None)
+          → cond b (cond d (file_refusal (w.number ∷ seen) ws) (Some UnusableFileNumber)) (Some UnknownFileType) ≡ None → Accepted w × (file_refusal (w.number ∷ seen) ws ≡ None)
       go true k true t e = (record { known = k; small = leb-true w.number 255 (and_l _ (not (has w.number seen)) t) }, e)
       go true k false t e = no_some (sym e)
       go false k d t e = no_some (sym e)
@@ -177,8 +178,8 @@ all_passed : (p : Plan) (t m : ℕ) → build_refusal p t m ≡ None → Passed 
 unfolding build_refusal
 all_passed p t m = go (file_refusal [] (or_defaults p.files)) refl (good_text p.text) refl (fits (planned p) t m) refl (log_fits p.count p.log) refl
   where
-    go : (o : Option ℕ) → file_refusal [] (or_defaults p.files) ≡ o → (x : Bool) → good_text p.text ≡ x → (y : Bool) → fits (planned p) t m ≡ y
-        → (z : Bool) → log_fits p.count p.log ≡ z → or_then o (cond x (cond y (cond z None (Some 15)) (Some 14)) (Some 13)) ≡ None → Passed p t m
+    go : (o : Option Refusal) → file_refusal [] (or_defaults p.files) ≡ o → (x : Bool) → good_text p.text ≡ x → (y : Bool) → fits (planned p) t m ≡ y
+        → (z : Bool) → log_fits p.count p.log ≡ z → or_then o (cond x (cond y (cond z None (Some UnusableDatalog)) (Some FilesBeyondRoom)) (Some UnusableTypeText)) ≡ None → Passed p t m
     go None a true b true c true d e = record { files = a; text = b; room = c; log = d }
     go None a true b true c false d e = no_some (sym e)
     go None a true b false c z d e = no_some (sym e)
@@ -268,12 +269,12 @@ module _ (p : Plan) (table : List FileRecord) (memory : List ℕ) (none-refused 
       and_both three log_good
 
 -- a processor that is built is sound
-pub new_sound : (p : Plan) (table : List FileRecord) (memory : List ℕ) → (new_of p table memory).built.made ≡ made.Ready
+pub new_sound : (p : Plan) (table : List FileRecord) (memory : List ℕ) → (new_of p table memory).built.made ≡ Ok tt
     → sound (state_of (new_of p table memory).built.slc (new_of p table memory).table (new_of p table memory).memory p.log) ≡ true
 unfolding new_of
 new_sound p table memory = go (build_refusal p (length table) (length memory)) refl
   where
-    go : (o : Option ℕ) → build_refusal p (length table) (length memory) ≡ o → (raise o p table memory).built.made ≡ made.Ready
+    go : (o : Option Refusal) → build_refusal p (length table) (length memory) ≡ o → (raise o p table memory).built.made ≡ Ok tt
         → sound (state_of (raise o p table memory).built.slc (raise o p table memory).table (raise o p table memory).memory p.log) ≡ true
     go None e m = subst (λ (s : State). sound s ≡ true) (sym (built_state_lem p table memory e)) (built_sound p table memory e)
     go (Some n) e m = let z : ◌≡◌ {A = ℕ} 0 1 = cc in absurd (omega arith)

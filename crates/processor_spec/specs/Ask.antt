@@ -1,6 +1,6 @@
 -- What a command asks, by the file records and the type text alone (document 01, "What the processor does").
 use Rattle.std.specs.Prelude.{ℕ, ◌+◌, ◌*◌, ◌&&◌, cond, List, [], ◌∷◌, ◌++◌, leb, eqb, length, take, drop, replicate, Option, None, Some}
-use Rattle.parser_spec.specs.Parts.{Part, then, ◌>>=◌, give}
+use Rattle.parser_spec.specs.Parts.{Part, ◌>>=◌, give}
 use Rattle.element_text.specs.Text.{fitted}
 use Rattle.directory_sys0.specs.declared.Sys0Info.{Sys0Info}
 use Rattle.directory_sys0.specs.Families.{sys0}

@@ -1,7 +1,7 @@
 -- The bytes behind the function byte, read part by part (document 01, "What the processor does"; the Rust's `Params`).
 use Rattle.std.specs.Prelude.{ℕ, Bool, ◌&&◌, ◌||◌, cond, List, [], leb, eqb, length, take, drop, None, Some}
 use Rattle.base.specs.Numbers.{number}
-use Rattle.parser_spec.specs.Parts.{Part, then, ◌>>=◌, give}
+use Rattle.parser_spec.specs.Parts.{Part, ◌>>=◌, give}
 
 -- so many bytes
 unfoldable pub several : ℕ → Part (List ℕ)
