@@ -1,5 +1,5 @@
 -- Every accepted address is in range: its type, file, element, position and count are among those that can be spelled.
-use Rattle.std.specs.Prelude.{Option, None, Some}
+use Rattle.std.specs.Prelude.{Option, None, Some, Ok, Err}
 use Prim.Native.Nat.{ℕ, ◌/◌, ◌≤◌}
 use mathlib.Core.Path.{◌≡◌, refl}
 use mathlib.Core.Logic.{◌⊎◌, inl, inr}
@@ -10,6 +10,8 @@ use borrow.Author.Tests.{le-leb, leb-true, eqb-true}
 use lib.Dec.{leb, eqb}
 use lib.ListN.{length}
 use Rattle.base.proofs.EveryPlace.{both}
+use Rattle.base.specs.declared.refusal.Refusal.{Refusal}
+use Rattle.base.specs.declared.refusal.Refusal.TheVariants.{MalformedTag}
 use Rattle.file_type.specs.declared.FileType.{FileType}
 use Rattle.file_type.specs.declared.FileType.TheVariants.{O, I, S, B, T, C, R, N, F, ST, A, L, MG, PD, PLS}
 use Rattle.parser_spec.specs.Parts.{digits_in}
@@ -19,7 +21,6 @@ use Rattle.parser_spec.proofs.Held.{Holds, that, and_next, and_any, held_of, who
 use Rattle.address_spec.specs.Elements.{Elements, elements_of, filed, slotted, allowed, spellable}
 use Rattle.address_spec.specs.Spelling.{file_before, optional_position, slots, slot, st_or_a, ct, lfbn, io, sta, status, bits, or_try, last_forms, separates, form_of, accepted, address_of}
 use Rattle.address_spec.specs.declared.Address.{Address}
-use Rattle.address_spec.specs.declared.Parsed.TheVariants as parsed
 
 abbrev pub CanSpell : Address → Type 0
 CanSpell x = spellable (elements_of x) ≡ true
@@ -137,14 +138,14 @@ unfolding form_of last_forms
 form_can alphabet separator tag x =
     one_of _ _ (ct_can alphabet tag x separator) (one_of _ _ (lfbn_can alphabet tag x) (one_of _ _ (io_can alphabet tag x) (one_of _ _ (st_can alphabet tag x) (one_of _ _ (a_can alphabet tag x) (one_of _ _ (s_can alphabet tag x) (b_can alphabet tag x))))))
 
-pub refused : {X : Type 0} {n : ℕ} {y : Address} → parsed.Refused n ≡ parsed.Is y → X
-refused e = absurd (let w : ◌≡◌ {A = ℕ} 0 1 = cc in omega arith)
+pub refused : {X : Type 0} {n : Refusal} {y : Address} → Err n ≡ Ok y → X
+refused e = absurd (cc)
 
-pub can : (tag : List ℕ) (x : Address) → address_of tag ≡ parsed.Is x → CanSpell x
+pub can : (tag : List ℕ) (x : Address) → address_of tag ≡ Ok x → CanSpell x
 unfolding address_of
 can tag x = go (leb (length tag) 255 && well_formed tag) (form_of utf8 separates tag) (form_can utf8 separates tag x)
   where
-    go : (t : Bool) (z : Option Address) → (z ≡ Some x → CanSpell x) → cond t (accepted z) (parsed.Refused 1) ≡ parsed.Is x → CanSpell x
+    go : (t : Bool) (z : Option Address) → (z ≡ Some x → CanSpell x) → cond t (accepted z) (Err MalformedTag) ≡ Ok x → CanSpell x
     go false z h q = refused q
     go true None h q = refused q
     go true (Some y) h q = h (cc)
@@ -201,5 +202,5 @@ module _ (x : Elements) where
   unfolding spellable
   ranged_elements h = by_type x.type h
 
-pub ranged : (tag : List ℕ) (x : Address) → address_of tag ≡ parsed.Is x → Ranged (elements_of x)
+pub ranged : (tag : List ℕ) (x : Address) → address_of tag ≡ Ok x → Ranged (elements_of x)
 ranged tag x e = ranged_elements (elements_of x) (can tag x e)
