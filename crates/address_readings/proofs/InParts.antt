@@ -1,5 +1,5 @@
 -- An accepted tag of a timer or counter in its parts: letter, file and `:`, digits, separator, name; and the same parts with a full stop, read again.
-use Rattle.std.specs.Prelude.{Option, Some}
+use Rattle.std.specs.Prelude.{Option, Some, None}
 use Prim.Native.Nat.{ℕ, zero, suc, min, ◌≤◌, ◌<◌}
 use Prim.Native.Char.{code}
 use mathlib.Core.Path.{◌≡◌, refl, ap, sym, subst, ◌∙◌}
@@ -23,7 +23,6 @@ use Rattle.parser_spec.proofs.CharacterBytes.{InBytes, Sort, small, high, in_byt
 use Rattle.parser_spec.proofs.Held.{Holds, nothing, that, and_next, held_of, itself, whole_some, here_held, one_held, byte_held, digits_held}
 use Rattle.parser_spec.proofs.Written.{passed, step, whole_read, one_read, byte_read, run_read, in_read}
 use Rattle.address_spec.specs.Spelling.{address, ascii, file_before, file_then, separates, name_in, ct_names, cut, cuts, element_name, ct}
-use Rattle.address_spec.specs.declared.Maybe.TheVariants.{Missing, Is}
 use Rattle.address_spec.specs.declared.Address.{Address}
 use Rattle.address_readings.specs.Readings.{stands, element_digits, past_element, up_to_separator, separator}
 use Rattle.address_readings.proofs.Names.{small_upper, Name, name_held}
@@ -199,7 +198,7 @@ pub record Timer (tag : List ℕ) (x : Address) (z : List ℕ) : Type 0 where
   number : File behind file element
   pub digits : Element (element_digits (min (digit_run element) 3) element) element value z
   range : leb value.0 255 ≡ true
-  pub is : x ≡ address type file value.0 Missing (Is value.1) true 1 (length tag)
+  pub is : x ≡ address type file value.0 None (Some value.1) true 1 (length tag)
 
 pub a_timer : (tag : List ℕ) (x : Address) → ct utf8 separates tag ≡ Some x → Timer tag x []
 unfolding ct element_name
@@ -257,7 +256,7 @@ module _ {tag : List ℕ} {x : Address} (t : Timer tag x []) where
   counted = some_digits t.element count (omega (arith, digits_most (min (digit_run t.element) 3) t.element))
 
   pub read_again : (test : ℕ → Bool) → test 46 ≡ true
-      → ct utf8 test (front ++ (46 ∷ name)) ≡ Some (address t.type t.file t.value.0 Missing (Is t.value.1) true 1 (length (front ++ (46 ∷ name))))
+      → ct utf8 test (front ++ (46 ∷ name)) ≡ Some (address t.type t.file t.value.0 None (Some t.value.1) true 1 (length (front ++ (46 ∷ name))))
   unfolding ct
   read_again test a =
       let d : List ℕ = take count t.element in

@@ -1,15 +1,16 @@
 -- Laws by which the readers of a tag are proved: each says what the reading gives from what was met.
+use Rattle.std.specs.Prelude.{Option, Ok, Err}
 use Prim.Native.Nat.{ℕ, ◌-◌}
 use mathlib.Core.Path.{◌≡◌, sym, ◌∙◌}
 use mathlib.Core.List.{List}
 use mathlib.Core.Bool.{Bool, true, false, not}
 use borrow.Author.Tests.{not-true, not-false}
 use lib.ListN.{length}
+use Rattle.base.specs.declared.refusal.Refusal.{Refusal}
+use Rattle.base.specs.declared.refusal.Refusal.TheVariants.{RetiredSeparator}
 use Rattle.file_type.specs.declared.FileType.{FileType}
 use Rattle.address_spec.specs.Spelling.{address_of}
-use Rattle.address_spec.specs.declared.Maybe.{Maybe}
 use Rattle.address_spec.specs.declared.Address.{Address}
-use Rattle.address_spec.specs.declared.Parsed.TheVariants as parsed
 use Rattle.address_readings.specs.declared.Reading.{Reading}
 use Rattle.address_readings.specs.declared.Reading.TheVariants.{New, Stored}
 use Rattle.address_readings.specs.Readings.{timed, retired, address_in}
@@ -17,7 +18,7 @@ use Rattle.address_readings.specs.Places.{name_length, plain_before, retired_by}
 use Rattle.address_readings.proofs.FromTheEnd.{retired_by_lem}
 
 -- ---- is it retired?
-module _ (l : List ℕ) (t : FileType) (m : Maybe) (b : Bool) (e : b ≡ timed t) where
+module _ (l : List ℕ) (t : FileType) (m : Option ℕ) (b : Bool) (e : b ≡ timed t) where
   pub untimed_by : not b ≡ true → false ≡ retired_by l t m
   unfolding retired_by
   untimed_by h = rw (← e, not-true b h)
@@ -28,16 +29,16 @@ module _ (l : List ℕ) (t : FileType) (m : Maybe) (b : Bool) (e : b ≡ timed t
 
 -- ---- the reading
 module _ (r : Reading) (s : List ℕ) where
-  pub refused_in : (n : ℕ) → parsed.Refused n ≡ address_of s → parsed.Refused n ≡ address_in r s
+  pub refused_in : (n : Refusal) → Err n ≡ address_of s → Err n ≡ address_in r s
   unfolding address_in retired
   refused_in n e = go r
     where
-      go : (r : Reading) → parsed.Refused n ≡ address_in r s
+      go : (r : Reading) → Err n ≡ address_in r s
       go Stored = e
       go New = rw (← e)
 
-  module _ (a : Address) (e : parsed.Is a ≡ address_of s) where
-    pub stored_in : r ≡ Stored → parsed.Is a ≡ address_in r s
+  module _ (a : Address) (e : Ok a ≡ address_of s) where
+    pub stored_in : r ≡ Stored → Ok a ≡ address_in r s
     unfolding address_in
     stored_in h = rw h e
 
@@ -45,10 +46,10 @@ module _ (r : Reading) (s : List ℕ) where
       is_retired : retired s ≡ b
       is_retired = sym (f ∙ retired_by_lem s a (sym e))
 
-      pub retired_in : b ≡ true → parsed.Refused 39 ≡ address_in r s
+      pub retired_in : b ≡ true → Err RetiredSeparator ≡ address_in r s
       unfolding address_in
       retired_in g = rw (h, is_retired ∙ g)
 
-      pub kept_in_lem : b ≡ false → parsed.Is a ≡ address_in r s
+      pub kept_in_lem : b ≡ false → Ok a ≡ address_in r s
       unfolding address_in
       kept_in_lem g = rw (h, is_retired ∙ g) e

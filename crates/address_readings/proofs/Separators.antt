@@ -17,7 +17,6 @@ use Rattle.parser_spec.specs.Parts.{Part, then, or_else, ended, whole, here, one
 use Rattle.parser_spec.specs.Characters.{character, utf8, first_of}
 use Rattle.parser_spec.proofs.Characters.{small_character}
 use Rattle.address_spec.specs.Spelling.{address, file_then, separates, name_in, ct_names, cut, cuts, element_name, ct}
-use Rattle.address_spec.specs.declared.Maybe.TheVariants.{Missing, Is}
 use Rattle.address_spec.specs.declared.Address.{Address}
 use Rattle.address_readings.specs.Readings.{stands, element_digits, past_element, up_to_separator, separator, plain, plainly}
 
@@ -109,7 +108,7 @@ name_plain s = cuts_plain (min (digit_run s) 3) s (omega arith)
 -- ---- the whole tag
 -- what follows an element and a name, and what follows the file
 abbrev told : List ℕ → FileType → ℕ → Option ((ℕ × ℕ) × List ℕ) → Option (Address × List ℕ)
-told tag t f x = then x (λ y r. then (here (leb y.0 255) r) (λ _ q. Some (address t f y.0 Missing (Is y.1) true 1 (length tag), q)))
+told tag t f x = then x (λ y r. then (here (leb y.0 255) r) (λ _ q. Some (address t f y.0 None (Some y.1) true 1 (length tag), q)))
 
 abbrev behind_file : (ℕ → Bool) → List ℕ → FileType → ℕ → Part Address
 behind_file test tag t f r = told tag t f (element_name character test r)
