@@ -1,5 +1,6 @@
 -- Setting an element writes inside that element: a sound state stays sound, and every other file keeps its bytes.
 use Rattle.std.specs.Prelude.{Option, None, Some}
+use Rattle.std.specs.Option.{option_map}
 use Prim.Native.Nat.{ℕ, ◌+◌, ◌*◌, ◌≤◌}
 use mathlib.Core.Path.{◌≡◌, refl, sym, ap, subst}
 use mathlib.Core.Bool.{Bool, true, false, ◌&&◌, cond}
@@ -51,12 +52,12 @@ line_in text = cases (In 84) (leb (length text) 82) _ _ (λ _. rw (string_length
 
 named_in : (t : FileType) (name old : List ℕ) (z : ℤ) → In 6 (named_of t name old z)
 unfolding of_field
-named_in t name old z = go (place 0 (field_names t) name)
+named_in t name old z = go (place (field_names t) name)
   where
-    go : (o : Option ℕ) → In 6 (field_of (field_at o) z old)
+    go : (o : Option ℕ) → In 6 (field_of (option_map field_at o) z old)
     go None = tt
     go (Some i) =
-        cases (λ f. In 6 (field_of f z old)) (ltb i 2) _ _
+        cases (λ f. In 6 (field_of (Some f) z old)) (ltb i 2) _ _
         (λ l. whole_in (2 + 2 * i) 2 0xFFFF 32768 32767 6 (omega (arith, ltb-true i 2 l)) z)
         (λ _. low_in 0 2 _ 6 (lit≤ tt))
 
