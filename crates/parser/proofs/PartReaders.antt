@@ -129,7 +129,7 @@ module _ {A : Type 0} (s : List ℕ) where
   give_at v c = a_read s c.i _ v c (record { is = refl; end = refl })
 
   module _ (i : ℕ) (q : Option (A × Cur)) where
-    placed_on : {B : Type 0} {z : Option (B × List ℕ)} {v : B} {c : Cur} (x y : Option (A × List ℕ)) → Reads s i z v c → y ≡ x → q ≡ placed c.i s x → q ≡ placed i s y
+    pub placed_on : {B : Type 0} {z : Option (B × List ℕ)} {v : B} {c : Cur} (x y : Option (A × List ℕ)) → Reads s i z v c → y ≡ x → q ≡ placed c.i s x → q ≡ placed i s y
     unfolding placed
     placed_on None y o e h = h ∙ rw e
     placed_on (Some p) y o e h = h ∙ rw (o.end, e)
@@ -169,23 +169,23 @@ module _ (char : Part ℕ) (test : ℕ → Bool) (s : List ℕ) (i : ℕ) where
     one_not e = no_place s i _ None refl (step _ h.is ∙ rw e)
 
 -- ---- one byte
+pub any_here : (s : List ℕ) (i : ℕ) → i < length s → Reads s i (any_byte (drop i s)) (get_or s i 0) (record { i = i + 1 })
+unfolding any_byte
+any_here s i h = record { is = rw (drop_next s i h); end = omega arith }
+
 module _ (s : List ℕ) (i v : ℕ) where
   pub byte_end : length s ≤ i → None ≡ place_of (placed i s (byte v (drop i s)))
   unfolding byte any_byte
   byte_end h = one_none any_byte _ s i None refl (rw (drop_of_length-le s h))
 
   module _ (h : i < length s) where
-    any_here : Reads s i (any_byte (drop i s)) (get_or s i 0) (record { i = i + 1 })
-    unfolding any_byte
-    any_here = record { is = rw (drop_next s i h); end = omega arith }
-
     pub byte_here : get_or s i 0 ≡ v → Some (record { i = i + 1 }) ≡ place_of (placed i s (byte v (drop i s)))
     unfolding byte
-    byte_here e = one_is any_byte _ s i _ (record { i = i + 1 }) any_here (eq-eqb _ _ e)
+    byte_here e = one_is any_byte _ s i _ (record { i = i + 1 }) (any_here s i h) (eq-eqb _ _ e)
 
     pub byte_not : (get_or s i 0 ≡ v → ⊥) → None ≡ place_of (placed i s (byte v (drop i s)))
     unfolding byte
-    byte_not e = one_not any_byte _ s i _ (record { i = i + 1 }) any_here (ne_eqb _ _ e)
+    byte_not e = one_not any_byte _ s i _ (record { i = i + 1 }) (any_here s i h) (ne_eqb _ _ e)
 
 -- ---- numbers
 module _ (s : List ℕ) (i n : ℕ) (run : Run s i n) where

@@ -1,9 +1,6 @@
-use Rattle.parser_characters.proofs.CharacterReaders.{no_byte, more_bytes}
-use borrow.Author.Rules.{rules}
+use native.Mathlib.Omega.{arith}
+use Rattle.parser_characters.proofs.CharacterReaders.{more_bytes}
 use Rattle.parser_characters.proofs.two_behind.Goals as goal
 
-pub returns-in_default : goal.returns-in_default
-returns-in_default c = search (no_byte, rules)
-
 pub returns : goal.returns
-returns c = search (more_bytes, rules)
+returns c = more_bytes _ _ _ _ _ _ _ _ c.byte_in.ensures _ _ _ c.in_ok-a.was (omega arith) c.one_behind.ensures
