@@ -8,6 +8,7 @@ use base::Refusal;
 use directory_sys0::Sys0Info;
 
 // The size in a reply's data, less what the processor adds to it: it may be negative.
+#[tactic(auto, unfolding(crate::specs::Size::size_in))]
 fn size_in(bytes: &[u8], size_const: u16) -> Result<i32, Refusal>
     ensures { result ≡ size_in bytes.now size_const }
 {
