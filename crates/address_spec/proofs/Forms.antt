@@ -1,35 +1,24 @@
 -- Laws of the forms: the whole tag, the forms in turn, questions 1 and 2.
 use Rattle.std.specs.Prelude.{Option, None, Some, Result, Ok, Err}
 use Prim.Native.Nat.{ℕ, ◌≤◌, ◌<◌}
-use mathlib.Core.Path.{◌≡◌, ◌∙◌}
+use mathlib.Core.Path.{◌≡◌}
 use mathlib.Core.List.{List, []}
-use mathlib.Core.Bool.{Bool, true, false, not, cond}
-use native.Mathlib.Omega.{arith}
+use mathlib.Core.Bool.{Bool, true, false, not}
 use borrow.Author.Tests.{le-leb, lt-leb, not-true, not-false}
-use lib.ListN.{length, drop}
+use lib.ListN.{length}
 use Rattle.base.specs.declared.refusal.Refusal.{Refusal}
 use Rattle.base.specs.declared.refusal.Refusal.TheVariants.{MalformedTag, NotAnAddress}
 use Rattle.file_type.specs.declared.FileType.{FileType}
-use Rattle.parser_spec.specs.DecimalNumbers.{Run, digit_run}
-use Rattle.parser_spec.specs.Parts.{Part, then, ended, whole, at_end, digits, before_byte}
+use Rattle.parser_spec.specs.Parts.{Part, ended, whole, at_end, before_byte}
 use Rattle.parser_spec.specs.Characters.{well_formed, utf8}
-use Rattle.address_spec.specs.Spelling.{address, kept_of, ignored, st_or_a, or_try, form_of, separates, accepted, address_of}
+use Rattle.address_spec.specs.Spelling.{address, kept_of, form_of, separates, accepted, address_of}
 use Rattle.address_spec.specs.declared.Address.{Address}
 
 -- ---- the whole tag
-module _ (b : Bool) (a : Address) (q : List ℕ) (e : b ≡ at_end q) where
-  pub ended_no : not b ≡ true → None ≡ ended (Some (a, q))
-  unfolding ended
-  ended_no h = rw (← e, not-true b h)
-
-  pub ended_yes : not b ≡ false → Some a ≡ ended (Some (a, q))
-  unfolding ended
-  ended_yes h = rw (← e, not-false b h)
-
 module _ (p : Part Address) (s : List ℕ) where
-  pub no_form : p s ≡ None → None ≡ whole p s
+  pub no_form : (r : Option Address) → r ≡ None → p s ≡ None → r ≡ whole p s
   unfolding whole ended
-  no_form e = rw e
+  no_form r g e = rw (g, e)
 
   pub a_form : (a : Address) → p s ≡ Some (a, []) → Some a ≡ whole p s
   unfolding whole ended at_end
@@ -60,36 +49,6 @@ module _ (m : Option ℕ) (tag : List ℕ) (k : ℕ) where
 
   pub kept_whole : (n : ℕ) → m ≡ Some n → length tag ≡ kept_of m tag
   kept_whole n e = rw e
-
--- ---- the ignored number, the letters of ST and A
-module _ (s : List ℕ) (i n : ℕ) (run : Run s i n) where
-  pub ignored_none : n ≡ 0 → ignored (drop i s) ≡ Some (tt, drop i s)
-  unfolding ignored
-  ignored_none e = let z : digit_run (drop i s) ≡ 0 = omega (arith, run.is) in rw z
-
-  pub ignored_some : (y : Option (Unit {0} × List ℕ)) → (n ≡ 0 → ⊥) → then (digits 3 (drop i s)) (λ _ r. Some (tt, r)) ≡ y → ignored (drop i s) ≡ y
-  unfolding ignored
-  ignored_some y e h = go (digit_run (drop i s)) (λ z. e (run.is ∙ z))
-    where
-      go : (d : ℕ) → (d ≡ 0 → ⊥) → cond (lib.Dec.eqb d 0) (Some (tt, drop i s)) (then (digits 3 (drop i s)) (λ _ r. Some (tt, r))) ≡ y
-      go d g = rw (borrow.Author.Tests.ne_eqb d 0 g) h
-
-module _ (st : Bool) (s : List ℕ) (y : Option (FileType × List ℕ)) where
-  pub only_a : not st ≡ true → st_or_a utf8 false s ≡ y → st_or_a utf8 st s ≡ y
-  only_a e h = rw (not-true st e) h
-
-  pub only_st : not st ≡ false → st_or_a utf8 true s ≡ y → st_or_a utf8 st s ≡ y
-  only_st e h = rw (not-false st e) h
-
--- ---- the forms in turn
-module _ (x y : Option Address) (r : Option Address) (e : r ≡ x) where
-  pub try_this : (a : Address) → r ≡ Some a → r ≡ or_try x y
-  unfolding or_try
-  try_this a g = rw (← e, g)
-
-  pub try_next : (q : Option Address) → r ≡ None → q ≡ y → q ≡ or_try x y
-  unfolding or_try
-  try_next q g h = rw (← e, g) h
 
 -- ---- questions 1 and 2
 module _ (s : List ℕ) where

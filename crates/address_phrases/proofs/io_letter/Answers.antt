@@ -1,12 +1,12 @@
-use Rattle.address_spec.proofs.FormReaders.{phrases}
+use Rattle.address_phrases.proofs.FormReaders.{phrases}
 use borrow.Author.Rules.{rules}
 use Rattle.address_phrases.proofs.io_letter.Goals as goal
 
-pub returns-in-At : goal.returns-in-At
-returns-in-At c = search (phrases, rules)
+pub returns-in-Some : goal.returns-in-Some
+returns-in-Some c = search (phrases, rules)
 
-pub returns-in-At-letter : goal.returns-in-At-letter
-returns-in-At-letter c = search (phrases, rules)
+pub returns-in_err-d : goal.returns-in_err-d
+returns-in_err-d c = search (phrases, c.in_err-d.was, rules)
 
 pub returns : goal.returns
-returns c = search (phrases, rules)
+returns c = search (phrases, c.in_ok-d.was, rules)

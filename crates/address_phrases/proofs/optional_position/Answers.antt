@@ -1,13 +1,12 @@
 use Rattle.address_spec.specs.Spelling.{optional_position}
-use Rattle.address_spec.proofs.FormReaders.{phrases}
-use Rattle.parser.proofs.PartReaders.{word_after}
+use Rattle.address_phrases.proofs.FormReaders.{phrases}
 use borrow.Author.Rules.{rules}
 use Rattle.address_phrases.proofs.optional_position.Goals as goal
 
-pub returns-in_default : goal.returns-in_default
+pub returns-in-Some : goal.returns-in-Some
 unfolding optional_position
-returns-in_default c = search (phrases, rules)
+returns-in-Some c = search (phrases, rules)
 
-pub returns : goal.returns
+pub returns-in-None : goal.returns-in-None
 unfolding optional_position
-returns c = search (word_after, rules)
+returns-in-None c = search (phrases, rules)
