@@ -1,7 +1,5 @@
 -- Numbers as decimal text.
 use Rattle.std.specs.Prelude.{ℕ, zero, suc, ◌+◌, ◌*◌, ◌-◌, ◌/◌, ◌%◌, ◌^◌, List, [], ◌∷◌, Bool, cond, ◌&&◌, ltb, leb, eqb, ℤ, pos, negsuc, neg_ℤ, Option, None, Some}
-use Rattle.decimal.specs.declared.Decimal.{Decimal}
-use Rattle.decimal.specs.declared.Whole.{Whole}
 
 -- the digits of n in front of a text; k is at least as many as the digits behind the first
 unfoldable pub decimal_before : ℕ → ℕ → List ℕ → List ℕ
@@ -32,21 +30,21 @@ number_of [] = None
 number_of (c ∷ s) = number_from 0 (c ∷ s)
 
 -- of these, the numbers below 2 ^ 64
-unfoldable pub unsigned_of : Option ℕ → Decimal
-unsigned_of None = Decimal.No
-unsigned_of (Some n) = cond (ltb n (2 ^ 64)) (Decimal.Is n) Decimal.No
+unfoldable pub unsigned_of : Option ℕ → Option ℕ
+unsigned_of None = None
+unsigned_of (Some n) = cond (ltb n (2 ^ 64)) (Some n) None
 
 -- a number with no sign in front, below 2 ^ 63
-unfoldable pub plus : Option ℕ → Whole
-plus None = Whole.No
-plus (Some n) = cond (ltb n (2 ^ 63)) (Whole.Is (pos n)) Whole.No
+unfoldable pub plus : Option ℕ → Option ℤ
+plus None = None
+plus (Some n) = cond (ltb n (2 ^ 63)) (Some (pos n)) None
 
 -- a number with `-` in front, down to - 2 ^ 63
-unfoldable pub minus : Option ℕ → Whole
-minus None = Whole.No
-minus (Some n) = cond (leb n (2 ^ 63)) (Whole.Is (neg_ℤ (pos n))) Whole.No
+unfoldable pub minus : Option ℕ → Option ℤ
+minus None = None
+minus (Some n) = cond (leb n (2 ^ 63)) (Some (neg_ℤ (pos n))) None
 
 -- a single `-` may stand in front
-unfoldable pub signed_of : List ℕ → Whole
-signed_of [] = Whole.No
+unfoldable pub signed_of : List ℕ → Option ℤ
+signed_of [] = None
 signed_of (c ∷ s) = cond (eqb c 45) (minus (number_of s)) (plus (number_of (c ∷ s)))
