@@ -1,4 +1,5 @@
 pub mod ElementsTold
+pub mod RefusalNumbers
 pub mod RequestQuestions
 pub mod RequestRows
 pub mod Supplied

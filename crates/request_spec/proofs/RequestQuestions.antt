@@ -1,4 +1,5 @@
 -- Questions 3 to 5, and where a request points.
+use Rattle.std.specs.Prelude.{None, Some}
 use Prim.Native.Nat.{ℕ, ◌*◌, ◌≤◌, ◌<◌}
 use mathlib.Core.Path.{◌≡◌}
 use mathlib.Core.Bool.{Bool, true, false, not, ◌&&◌, ◌||◌}
@@ -18,7 +19,6 @@ use Rattle.request_spec.specs.SizeAnswers.{size_of}
 use Rattle.request_spec.specs.Request.{bit_and_count, place, read_size, preset_or_accum, bit_suits, text_suits, suits, last_address}
 use Rattle.request_spec.specs.declared.WriteValue.{WriteValue}
 use Rattle.request_spec.specs.declared.WriteValue.TheVariants as value
-use Rattle.request_spec.specs.declared.Size.TheVariants as size
 
 -- ---- 3
 module _ (x : Address) where
@@ -31,14 +31,14 @@ module _ (x : Address) where
   bit_no h = rw h
 
 -- ---- 5
-pub size_none : (n : ℕ) → 255 < n → size.No ≡ size_of n
+pub size_none : (n : ℕ) → 255 < n → None ≡ size_of n
 size_none n h = rw (lt-leb _ _ h)
 
-pub size_is : (n : ℕ) → n ≤ 255 → size.Is n ≡ size_of n
+pub size_is : (n : ℕ) → n ≤ 255 → Some n ≡ size_of n
 size_is n h = rw (le-leb _ _ h)
 
 module _ (x : Address) where
-  pub size_far : 255 < x.element_count → size.No ≡ size_of (read_size (elements_of x))
+  pub size_far : 255 < x.element_count → None ≡ size_of (read_size (elements_of x))
   unfolding read_size
   size_far h =
       let k : 1 * x.element_count ≤ (row x.file_type).size * x.element_count = mul-le-mul_right x.element_count (size_some x.file_type) in
@@ -51,11 +51,11 @@ module _ (x : Address) where
         let k : e * x.element_count ≤ 84 * x.element_count = mul-le-mul_right x.element_count m in
         omega (arith, k)
 
-    pub size_large : 255 < e * x.element_count → size.No ≡ size_of (read_size (elements_of x))
+    pub size_large : 255 < e * x.element_count → None ≡ size_of (read_size (elements_of x))
     unfolding read_size
     size_large h = rw (← d) (size_none _ h)
 
-    pub size_fine : e * x.element_count ≤ 255 → size.Is (e * x.element_count) ≡ size_of (read_size (elements_of x))
+    pub size_fine : e * x.element_count ≤ 255 → Some (e * x.element_count) ≡ size_of (read_size (elements_of x))
     unfolding read_size
     size_fine h = rw (← d) (size_is _ h)
 

@@ -1,4 +1,5 @@
 -- Mask word and data.
+use Rattle.std.specs.Prelude.{None, Some}
 use Prim.Native.Nat.{ℕ, ◌-◌, ◌/◌, ◌%◌, ◌≤◌, ◌<◌}
 use mathlib.Core.Path.{◌≡◌, ap, sym, subst}
 use mathlib.Core.Bool.{Bool, true, false}
@@ -23,7 +24,6 @@ use Rattle.request_spec.specs.SizeAnswers.{data_size_of}
 use Rattle.request_spec.specs.Request.{is_ascii, bit_data, text_data, supplied}
 use Rattle.request_spec.specs.declared.WriteValue.{WriteValue}
 use Rattle.request_spec.specs.declared.WriteValue.TheVariants as value
-use Rattle.request_spec.specs.declared.Size.TheVariants as size
 
 pub is_ascii_lem : (x : Address) {code : ℕ} → code ≡ (row x.file_type).code → eqb code 0x8E ≡ is_ascii x
 is_ascii_lem x e = rw e
@@ -71,13 +71,13 @@ module _ (s : List ℕ) (x : Address) {v : WriteValue} where
 
 -- ---- the size field
 module _ {n k : ℕ} (e : n ≡ k) where
-  pub too_few : n < 2 → size.No ≡ data_size_of k
+  pub too_few : n < 2 → None ≡ data_size_of k
   too_few h = rw (← e, lt-leb _ _ h)
 
-  pub too_many : 257 < n → size.No ≡ data_size_of k
+  pub too_many : 257 < n → None ≡ data_size_of k
   too_many h = rw (← e, lt-leb _ _ h, le-leb 2 n (omega arith))
 
-  pub well : 2 ≤ n → n ≤ 257 → size.Is (n - 2) ≡ data_size_of k
+  pub well : 2 ≤ n → n ≤ 257 → Some (n - 2) ≡ data_size_of k
   well h g = rw (← e, le-leb _ _ h, le-leb _ _ g)
 
 -- ---- laid
