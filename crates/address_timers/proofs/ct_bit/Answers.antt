@@ -1,12 +1,9 @@
-use Rattle.address_timers.proofs.Timers.{of_two, of_three, other_length}
-use borrow.Author.Rules.{rules}
+use Rattle.address_timers.proofs.Timers.{other_length}
+use native.Mathlib.Omega.{arith}
 use Rattle.address_timers.proofs.ct_bit.Goals as goal
 
-pub returns-then-t-eq2 : goal.returns-then-t-eq2
-returns-then-t-eq2 c = search (of_two, rules)
+pub returns-in_default : goal.returns-in_default
+returns-in_default c = other_length _ (omega arith) (omega arith)
 
-pub returns-then-t-eq3 : goal.returns-then-t-eq3
-returns-then-t-eq3 c = search (of_three, rules)
-
-pub returns : goal.returns
-returns c = search (other_length, rules)
+pub returns-in_default-2 : goal.returns-in_default-2
+returns-in_default-2 c = other_length _ (omega arith) (omega arith)

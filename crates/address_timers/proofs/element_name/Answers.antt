@@ -3,10 +3,10 @@ use borrow.Author.Rules.{rules}
 use Rattle.address_timers.proofs.element_name.Goals as goal
 
 pub loop-k-init : goal.loop-k-init
-loop-k-init c = cuts_start _ _ _ _ _ c.least-k.ensures c.digit_run-run.ensures
+loop-k-init c = cuts_start _ _ _ _ _ c.min-k.ensures c.digit_run.ensures
 
-pub returns-in-Got : goal.returns-in-Got
-returns-in-Got c = search (cuts_hit, rules)
+pub returns-in-Some : goal.returns-in-Some
+returns-in-Some c = search (cuts_hit, rules)
 
 pub loop-k-preserved : goal.loop-k-preserved
 loop-k-preserved c = (search rules, search (cuts_miss, rules))

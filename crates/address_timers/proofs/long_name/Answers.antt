@@ -15,4 +15,4 @@ returns-in-4277059 c = search (long_is, rules)
 
 pub returns-in_default : goal.returns-in_default
 unfolding ct_names
-returns-in_default c = long_not _ _ _ _ _ _ c.letter-x.ensures c.letter-y.ensures c.letter-z.ensures (omega arith) (omega arith) (omega arith) _ refl (search rules)
+returns-in_default c = long_not _ _ _ _ _ _ _ _ _ c.letter.ensures c.letter-2.ensures c.letter-3.ensures c.from-x.ensures c.from-y.ensures c.from-z.ensures (omega arith) (omega arith) (omega arith) _ refl (search rules)

@@ -39,4 +39,4 @@ returns-in-21825 c = search (short_is, rules)
 
 pub returns-in_default : goal.returns-in_default
 unfolding ct_names
-returns-in_default c = short_not _ _ _ _ c.letter-x.ensures c.letter-y.ensures (omega arith) (omega arith) _ refl (search rules)
+returns-in_default c = short_not _ _ _ _ _ _ c.letter.ensures c.letter-2.ensures c.from-x.ensures c.from-y.ensures (omega arith) (omega arith) _ refl (search rules)
