@@ -1,5 +1,4 @@
 pub mod ElementsTold
 pub mod RefusalNumbers
-pub mod RequestQuestions
 pub mod RequestRows
 pub mod Supplied
