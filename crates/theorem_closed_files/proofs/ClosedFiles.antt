@@ -7,6 +7,7 @@ use mathlib.Core.List.{List, [], ◌∷◌}
 use native.Mathlib.Decide.{ℕ_discrete}
 use lib.Dec.{leb}
 use lib.ListN.{length, take, drop}
+use Rattle.base.specs.declared.refusal.Refusal.TheVariants.{ShortReplyMemory, MalformedCommand}
 use Rattle.base.specs.Put.{put}
 use Rattle.processor_spec.specs.declared.FileRecord.{FileRecord}
 use Rattle.processor_spec.specs.Ask.{Ask, fail, tell, pop, read, write, ask}
@@ -137,7 +138,7 @@ module _ (closed : ℕ → Bool) (a b : State) (ha : sound a ≡ true) (hb : sou
           (ap₂ (λ (rs : List FileRecord) (text : List ℕ). ask rs text (cmd c) (function c)) same_records ag.same_text)
           (isolated_ask c q (open_asked closed a.records a.type_text c w av))
 
-      go : (r w : Bool) → well_formed c ≡ w → Isolated₁ closed a b (cond r (cond w (obey a c) (refuse 18)) (refuse 17)) (cond r (cond w (obey b c) (refuse 18)) (refuse 17))
+      go : (r w : Bool) → well_formed c ≡ w → Isolated₁ closed a b (cond r (cond w (obey a c) (refuse MalformedCommand)) (refuse ShortReplyMemory)) (cond r (cond w (obey b c) (refuse MalformedCommand)) (refuse ShortReplyMemory))
       go false w e = stay _ _ refl
       go true false e = stay _ _ refl
       go true true e = obeyed e
