@@ -12,6 +12,7 @@ use address_spec::Address;
 use file_type::FileType;
 use parser::Cur;
 
+#[tactic(auto, using(crate::proofs::FormReaders::phrases))]
 pub fn ct_letter(c: Cur, s: &[u8]) -> Option<(FileType, Cur)>
     ensures { result ≡ read_at c.i s.now (first_of utf8 (("C", C) ∷ ("T", T) ∷ [])) }
 {
@@ -22,6 +23,7 @@ pub fn ct_letter(c: Cur, s: &[u8]) -> Option<(FileType, Cur)>
     Some((FileType::T, d))
 }
 
+#[tactic(auto, using(crate::proofs::FormReaders::phrases))]
 pub fn lfbn_letter(c: Cur, s: &[u8]) -> Option<(FileType, Cur)>
     ensures { result ≡ read_at c.i s.now (first_of utf8 (("L", L) ∷ ("F", F) ∷ ("B", B) ∷ ("N", N) ∷ [])) }
 {
@@ -39,6 +41,7 @@ pub fn lfbn_letter(c: Cur, s: &[u8]) -> Option<(FileType, Cur)>
 }
 
 // The type and file of I and O.
+#[tactic(auto, using(crate::proofs::FormReaders::phrases))]
 fn io_letter(c: Cur, s: &[u8]) -> Option<((FileType, u16), Cur)>
     ensures { result ≡ read_at c.i s.now (first_of utf8 slots) }
 {
@@ -50,6 +53,7 @@ fn io_letter(c: Cur, s: &[u8]) -> Option<((FileType, u16), Cur)>
 }
 
 // The letters ST, or A.
+#[tactic(auto, using(crate::proofs::FormReaders::phrases), unfolding(address_spec::specs::Spelling::st_or_a))]
 pub fn st_or_a(c: Cur, s: &[u8], st: bool) -> Option<(FileType, Cur)>
     ensures { result ≡ read_at c.i s.now (st_or_a utf8 st) }
 {
@@ -64,6 +68,7 @@ pub fn st_or_a(c: Cur, s: &[u8], st: bool) -> Option<(FileType, Cur)>
 }
 
 // A file and the sign behind it.
+#[tactic(auto, using(crate::proofs::FormReaders::phrases), unfolding(address_spec::specs::Spelling::file_before))]
 pub fn file_then(c: Cur, s: &[u8], sign: u8) -> Option<(u16, Cur)>
     ensures { result ≡ read_at c.i s.now (file_before sign) }
 {
@@ -73,6 +78,7 @@ pub fn file_then(c: Cur, s: &[u8], sign: u8) -> Option<(u16, Cur)>
 }
 
 // An optional `/` and bit.
+#[tactic(auto, using(crate::proofs::FormReaders::phrases), unfolding(address_spec::specs::Spelling::optional_bit))]
 fn optional_bit(c: Cur, s: &[u8]) -> Option<(Option<u16>, Cur)>
     ensures { result ≡ read_at c.i s.now optional_bit }
 {
@@ -84,6 +90,7 @@ fn optional_bit(c: Cur, s: &[u8]) -> Option<(Option<u16>, Cur)>
 }
 
 // An optional bit, and a count.
+#[tactic(auto, using(crate::proofs::FormReaders::phrases), unfolding(address_spec::specs::Spelling::bit_count))]
 pub fn bit_count(c: Cur, s: &[u8]) -> Option<((Option<u16>, u64), Cur)>
     ensures { result ≡ read_at c.i s.now bit_count }
 {
@@ -105,6 +112,7 @@ fn ignore_number(c: Cur, s: &[u8]) -> Option<Cur>
 }
 
 // I or O, an optional number, `:`.
+#[tactic(auto, using(crate::proofs::FormReaders::phrases), unfolding(address_spec::specs::Spelling::slot))]
 pub fn slot(c: Cur, s: &[u8]) -> Option<((FileType, u16), Cur)>
     ensures { result ≡ read_at c.i s.now (spelling_slot utf8) }
 {
@@ -115,6 +123,7 @@ pub fn slot(c: Cur, s: &[u8]) -> Option<((FileType, u16), Cur)>
 }
 
 // An optional `.` and position, 0 where it is absent.
+#[tactic(auto, using(crate::proofs::FormReaders::phrases), unfolding(address_spec::specs::Spelling::optional_position))]
 pub fn optional_position(c: Cur, s: &[u8]) -> Option<(u16, Cur)>
     ensures { result ≡ read_at c.i s.now optional_position }
 {

@@ -200,20 +200,20 @@ module _ (separator : ℕ → Bool) where
   cuts_at zero l h = absurd (not-suc-le-zero h)
   cuts_at (suc k) l h = let e : suc k - 1 ≡ k = omega arith in rw e
 
-  pub cuts_start : (s : List ℕ) (i k n : ℕ) → k ≡ min n 3 → Run s i n → (k ≤ length s - i) × (cuts character separator k (drop i s) ≡ element_name character separator (drop i s))
+  pub cuts_start : (s : List ℕ) (i k n : ℕ) → k ≡ min n 3 → Run s i n → cuts character separator k (drop i s) ≡ element_name character separator (drop i s)
   unfolding element_name
-  cuts_start s i k n e run = (omega (arith, run.fits), rw (e, run.is))
+  cuts_start s i k n e run = rw (e, run.is)
 
   module _ (l : List ℕ) (k : ℕ) (inv : cuts character separator k l ≡ element_name character separator l) where
-    pub cuts_none : k ≤ 0 → element_name character separator l ≡ to_the_end None
+    pub cuts_none : k < 1 → element_name character separator l ≡ to_the_end None
     unfolding cuts to_the_end
     cuts_none h = let z : k ≡ 0 = omega arith in sym inv ∙ rw z
 
-    module _ (r : Option (ℕ × ℕ)) (h : 0 < k) (e : cut character separator k l ≡ to_the_end r) where
-      pub cuts_hit : (x : ℕ × ℕ) → r ≡ Some x → element_name character separator l ≡ to_the_end (Some x)
+    module _ (h : 1 ≤ k) where
+      pub cuts_hit : (x : ℕ × ℕ) → cut character separator k l ≡ to_the_end (Some x) → element_name character separator l ≡ to_the_end (Some x)
       unfolding or_else to_the_end
-      cuts_hit x g = sym inv ∙ cuts_at k l h ∙ rw (e, g)
+      cuts_hit x e = sym inv ∙ cuts_at k l h ∙ rw e
 
-      pub cuts_miss : r ≡ None → cuts character separator (k - 1) l ≡ element_name character separator l
+      pub cuts_miss : cut character separator k l ≡ to_the_end None → cuts character separator (k - 1) l ≡ element_name character separator l
       unfolding or_else to_the_end
-      cuts_miss g = sym (cuts_at k l h ∙ rw (e, g)) ∙ inv
+      cuts_miss e = sym (cuts_at k l h ∙ rw e) ∙ inv

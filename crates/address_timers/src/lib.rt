@@ -11,6 +11,7 @@ ghost use Rattle.address_spec.specs.Spelling.{ct_names, name_in, separates, cut,
 use parser::Cur;
 
 // A name of two letters, by both at once.
+#[tactic(auto, using(crate::proofs::Timers::short_is, crate::proofs::Timers::short_not), unfolding(address_spec::specs::Spelling::ct_names))]
 fn short_name(a: u8, b: u8) -> Option<u16>
     ensures { name_in ct_names (a ∷ b ∷ []) ≡ to_the_end result }
 {
@@ -30,6 +31,7 @@ fn short_name(a: u8, b: u8) -> Option<u16>
 }
 
 // A name of three.
+#[tactic(auto, using(crate::proofs::Timers::long_is, crate::proofs::Timers::long_not), unfolding(address_spec::specs::Spelling::ct_names))]
 fn long_name(a: u8, b: u8, c: u8) -> Option<u16>
     ensures { name_in ct_names (a ∷ b ∷ c ∷ []) ≡ to_the_end result }
 {
@@ -44,6 +46,7 @@ fn long_name(a: u8, b: u8, c: u8) -> Option<u16>
 }
 
 // The number of the name that `t` spells.
+#[tactic(auto, using(crate::proofs::Timers::other_length))]
 fn ct_bit(t: &[u8]) -> Option<u16>
     ensures { name_in ct_names t.now ≡ to_the_end result }
 {
@@ -71,6 +74,7 @@ fn separator_of(c: Cur, s: &[u8]) -> Option<Cur>
 }
 
 // The same. A byte below 128 is a character by itself, and needs no decoding.
+#[tactic(auto, using(parser_characters::proofs::CharacterReaders::none_left, crate::proofs::Timers::sign_here, crate::proofs::Timers::sign_not))]
 fn separator(c: Cur, s: &[u8]) -> Option<Cur>
     ensures { result ≡ place_at c.i s.now (one character separates) }
 {
@@ -90,6 +94,7 @@ fn separator(c: Cur, s: &[u8]) -> Option<Cur>
 }
 
 // An element of k digits, a separator, a name.
+#[tactic(auto, using(crate::proofs::Timers::cut_no, crate::proofs::Timers::name_within, crate::proofs::Timers::cut_unnamed, crate::proofs::Timers::cut_named))]
 fn cut_at(c: Cur, s: &[u8], k: usize) -> Option<(u64, u16)>
     requires { c.i + k ≤ length s.now }
     ensures { cut character separates k (drop c.i s.now) ≡ to_the_end result }
@@ -101,15 +106,15 @@ fn cut_at(c: Cur, s: &[u8], k: usize) -> Option<(u64, u16)>
 }
 
 // The same with three digits or fewer, longest cut first.
+#[tactic(auto, using(crate::proofs::Timers::cuts_start, crate::proofs::Timers::cuts_miss, crate::proofs::Timers::cuts_none))]
 pub fn element_name(c: Cur, s: &[u8]) -> Option<(u64, u16)>
     ensures { element_name character separates (drop c.i s.now) ≡ to_the_end result }
 {
-    let mut k = parser::digit_run(s, c.i).min(3);
-    while 0 < k {
+    let most = parser::digit_run(s, c.i).min(3);
+    for k in (1..=most).rev() {
         if let Some(named) = cut_at(c, s, k) {
             return Some(named);
         }
-        k -= 1;
     }
     None
 }

@@ -3,10 +3,6 @@ use Rattle.address_phrases.proofs.FormReaders.{phrases}
 use borrow.Author.Rules.{rules}
 use Rattle.address_phrases.proofs.bit_count.Goals as goal
 
-pub returns-in_err-b : goal.returns-in_err-b
-unfolding bit_count
-returns-in_err-b c = search (phrases, c.in_err-b.was, rules)
-
 pub returns-in_err-n : goal.returns-in_err-n
 unfolding bit_count
 returns-in_err-n c = search (phrases, c.in_ok-b.was, c.in_err-n.was, rules)

@@ -3,10 +3,6 @@ use Rattle.address_phrases.proofs.FormReaders.{phrases}
 use borrow.Author.Rules.{rules}
 use Rattle.address_phrases.proofs.file_then.Goals as goal
 
-pub returns-in_err-f : goal.returns-in_err-f
-unfolding file_before
-returns-in_err-f c = search (phrases, c.in_err-f.was, rules)
-
 pub returns-in_err-e : goal.returns-in_err-e
 unfolding file_before
 returns-in_err-e c = search (phrases, c.in_ok-f.was, c.in_err-e.was, rules)

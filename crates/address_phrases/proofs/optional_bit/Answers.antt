@@ -3,10 +3,6 @@ use Rattle.address_phrases.proofs.FormReaders.{phrases}
 use borrow.Author.Rules.{rules}
 use Rattle.address_phrases.proofs.optional_bit.Goals as goal
 
-pub returns-in_default : goal.returns-in_default
-unfolding optional_bit
-returns-in_default c = search (phrases, rules)
-
 pub returns-in_err-n : goal.returns-in_err-n
 unfolding optional_bit
 returns-in_err-n c = search (phrases, c.in_err-n.was, rules)

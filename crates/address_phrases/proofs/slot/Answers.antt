@@ -3,10 +3,6 @@ use Rattle.address_phrases.proofs.FormReaders.{phrases}
 use borrow.Author.Rules.{rules}
 use Rattle.address_phrases.proofs.slot.Goals as goal
 
-pub returns-in_err-slot : goal.returns-in_err-slot
-unfolding slot
-returns-in_err-slot c = search (phrases, c.in_err-slot.was, rules)
-
 pub returns-in_err-e : goal.returns-in_err-e
 unfolding slot
 returns-in_err-e c = search (phrases, c.in_ok-slot.was, c.in_err-e.was, rules)
