@@ -6,16 +6,16 @@ use Prim.Native.Char.{Char}
 use Prim.Native.Nat.{ℕ, ◌+◌, ◌≤◌, ◌<◌, ◌-◌}
 use mathlib.Core.Path.{◌≡◌, refl, ap, sym, ◌∙◌}
 use mathlib.Core.List.{List, [], ◌∷◌}
-use mathlib.Core.Bool.{Bool, true, false, not, ◌&&◌}
+use mathlib.Core.Bool.{Bool, true, false, ◌&&◌}
 use native.Mathlib.Nat.{add-sub_cancel_left}
 use native.Mathlib.Omega.{arith}
-use borrow.Author.Tests.{le-leb, lt-leb, leb-true, leb-false, lt-ltb, le-ltb, eq-eqb, ne_eqb, not-true, not-false}
+use borrow.Author.Tests.{le-leb, lt-leb, leb-true, leb-false, lt-ltb, le-ltb, eq-eqb, ne_eqb}
 use lib.Dec.{leb}
 use lib.ListN.{length, take, drop, get_or, drop_of_length-le, length-drop}
 use lib.Seq.{drop-drop}
 use Rattle.base.proofs.Parts.{drop_next}
 use Rattle.parser_spec.specs.DecimalNumbers.{digit_run, Run, number_of}
-use Rattle.parser_spec.specs.Parts.{Part, then, at_end, here, any_byte, one, byte, numeral, digits, digits_in, after_byte, count_number}
+use Rattle.parser_spec.specs.Parts.{Part, then, at_end, here, any_byte, one, byte, numeral, after_byte}
 use Rattle.parser_spec.specs.Characters.{utf8, letter, first_of}
 use Rattle.parser_spec.proofs.Held.{nothing, that, no_some}
 use Rattle.parser_spec.proofs.Behind.{Leaves, byte_leaves, numeral_leaves, digits_leaves, in_leaves, number_leaves, count_leaves}
@@ -187,6 +187,8 @@ module _ (s : List ℕ) (i v : ℕ) where
     unfolding byte
     byte_not e = one_not any_byte _ s i _ (record { i = i + 1 }) (any_here s i h) (ne_eqb _ _ e)
 
+pub ruleset one_byte = (byte_end, byte_here, byte_not)
+
 -- ---- numbers
 module _ (s : List ℕ) (i n : ℕ) (run : Run s i n) where
   e : n ≡ digit_run (drop i s)
@@ -202,13 +204,7 @@ module _ (s : List ℕ) (i n : ℕ) (run : Run s i n) where
       let q : numeral (drop i s) ≡ Some (v, drop (i + n) s) = simp (lt-ltb 0 (digit_run (drop i s)) (omega arith), ← e, drop-drop n i s, p, add-sub_cancel_left i n) in
       a_read s i _ v (record { i = i + n }) (record { is = q; end = omega (arith, run.fits) })
 
-  pub digits_long : (max : ℕ) → max < n → None ≡ placed i s (digits max (drop i s))
-  unfolding digits
-  digits_long max h = let k : max < digit_run (drop i s) = omega arith in no_read s i _ None refl (rw (lt-leb _ _ k))
-
-  pub digits_are : (max : ℕ) (r : Option (ℕ × Cur)) → n ≤ max → r ≡ placed i s (numeral (drop i s)) → r ≡ placed i s (digits max (drop i s))
-  unfolding digits
-  digits_are max r h g = let k : digit_run (drop i s) ≤ max = omega arith in rw (le-leb _ _ k) g
+pub ruleset numerals = (numeral_none, numeral_at)
 
 -- ---- the end
 pub end_left : (s : List ℕ) (i : ℕ) → leb (length s) i ≡ at_end (drop i s)
@@ -218,16 +214,6 @@ end_left s i = go (leb (length s) i) refl
     go : (t : Bool) → leb (length s) i ≡ t → t ≡ at_end (drop i s)
     go true e = rw (drop_of_length-le s (leb-true _ _ e))
     go false e = rw (drop_next s i (leb-false _ _ e))
-
--- the number of a count
-module _ (s : List ℕ) (i : ℕ) (r : Option (ℕ × Cur)) where
-  pub any_number : (one_or_two : Bool) → not one_or_two ≡ true → r ≡ placed i s (numeral (drop i s)) → r ≡ placed i s (count_number one_or_two (drop i s))
-  unfolding count_number
-  any_number b e h = rw (not-true b e) h
-
-  pub one_or_two_number : (one_or_two : Bool) → not one_or_two ≡ false → r ≡ placed i s (digits_in 1 1 2 (drop i s)) → r ≡ placed i s (count_number one_or_two (drop i s))
-  unfolding count_number
-  one_or_two_number b e h = rw (not-false b e) h
 
 -- ---- a test
 module _ {A : Type 0} (s : List ℕ) (k : Unit {0} → Part A) where

@@ -2,7 +2,7 @@
 #![tactic(auto)]
 
 ghost use Rattle.std.specs.Prelude.{◌≡◌, ◌+◌, ◌*◌, min, drop};
-ghost use Rattle.parser_spec.specs.DecimalNumbers.{is_digit, digit_value, Run, most, number_of};
+ghost use Rattle.parser_spec.specs.DecimalNumbers.{digit_value, Run, most, number_of};
 ghost use Rattle.parser_spec.specs.Parts.{at_end, byte, numeral, digits, digits_in, count_number, count_of, before_byte};
 ghost use Rattle.parser.specs.CursorAnswers.{read_at, place_at};
 
@@ -12,85 +12,54 @@ pub struct Cur {
     pub i: usize,
 }
 
-fn is_digit(b: u8) -> bool
-    ensures { result ≡ is_digit b }
-{
-    if b < 48 {
-        return false;
-    }
-    b <= 57
-}
-
-// The value of a digit, 0 of any other byte.
-fn digit_value(b: u8) -> u64
-    ensures { result ≡ digit_value b }
-{
-    if b < 48 {
-        return 0;
-    }
-    if 57 < b {
-        return 0;
-    }
-    (b - 48) as u64
-}
-
 // How many digits stand at `at`.
+#[tactic(auto, using(crate::proofs::DecimalNumbers::runs))]
 pub fn digit_run(s: &[u8], at: usize) -> usize
     ensures { Run s.now at result }
 {
-    let mut i = at;
-    while i < s.len() {
-        if !is_digit(s[i]) {
+    for i in at..s.len() {
+        if !s[i].is_ascii_digit() {
             return i - at;
         }
-        i += 1;
     }
-    i - at
+    s.len().saturating_sub(at)
 }
 
-const MOST: u64 = 0xFFFF_FFFF_FFFF_FFFF;
-
-// One more digit behind `n`, held to 2^64 - 1.
+// One more digit behind `n`, held to 2^64 - 1; any other byte counts as 0.
 fn push_digit(n: u64, b: u8) -> u64
     ensures { result ≡ min (n * 10 + digit_value b) most }
 {
-    let d = digit_value(b);
-    if (MOST - d) / 10 < n {
-        MOST
+    let d = if b.is_ascii_digit() {
+        u64::from(b - b'0')
     } else {
-        n * 10 + d
-    }
+        0
+    };
+    n.saturating_mul(10).saturating_add(d)
 }
 
 // The value of digits, held to 2^64 - 1.
 pub fn number_of(s: &[u8]) -> u64
     ensures { result ≡ number_of s.now }
 {
-    let mut n: u64 = 0;
-    let mut i = 0;
-    while i < s.len() {
-        n = push_digit(n, s[i]);
-        i += 1;
-    }
-    n
+    s.iter().fold(0, |n, b| push_digit(n, *b))
 }
 
 // How many bytes stand before the first `v`.
+#[tactic(auto, using(crate::proofs::DecimalNumbers::bytes_before))]
 pub fn find(s: &[u8], v: u8) -> usize
     ensures { result ≡ before_byte v s.now }
 {
-    let mut i = 0;
-    while i < s.len() {
-        if s[i] == v {
+    for (i, b) in s.iter().enumerate() {
+        if *b == v {
             return i;
         }
-        i += 1;
     }
-    i
+    s.len()
 }
 
 impl Cur {
     // This byte.
+    #[tactic(auto, using(crate::proofs::PartReaders::one_byte))]
     pub fn eat(self, s: &[u8], v: u8) -> Option<Cur>
         ensures { result ≡ place_at self.i s.now (byte v) }
     {
@@ -102,6 +71,7 @@ impl Cur {
     }
 
     // One digit or more, and no digit behind them.
+    #[tactic(auto, using(crate::proofs::PartReaders::numerals))]
     pub fn numeral(self, s: &[u8]) -> Option<(u64, Cur)>
         ensures { result ≡ read_at self.i s.now numeral }
     {
@@ -115,6 +85,7 @@ impl Cur {
     }
 
     // The same, with at most so many digits.
+    #[tactic(auto, unfolding(parser_spec::specs::Parts::digits, crate::specs::CursorAnswers::placed))]
     pub fn digits(self, s: &[u8], max: usize) -> Option<(u64, Cur)>
         ensures { result ≡ read_at self.i s.now (digits max) }
     {
