@@ -172,3 +172,5 @@ module _ (s : List ℕ) (n i : ℕ) (e : unsigned_of (number_from n (drop i s)) 
   pub number_done : length s ≤ i → n < 18446744073709551616 → Some n ≡ unsigned_of (number_of s)
   unfolding number_from unsigned_of
   number_done h g = rw (drop_of_length-le s h, lt-ltb n 18446744073709551616 g) at e
+
+pub ruleset numbers = (number_empty, number_start, number_stop, number_turn, number_done)

@@ -102,3 +102,5 @@ pub without : (s : List ℕ) → (length s ≡ 0 → ⊥) → (get_or s 0 0 ≡ 
 unfolding signed_of
 without [] n h = absurd (n refl)
 without (c ∷ l) n h = rw (ne_eqb c 45 h) (plus_read (number_of (c ∷ l)))
+
+pub ruleset signs = (signed_empty, behind_minus, without)

@@ -47,7 +47,7 @@ fn more(n: u64, c: u8) -> Option<u64>
 }
 
 // A number of one or more digits that is below 2 ^ 64.
-#[tactic(auto, using(crate::proofs::Decimals::number_empty, crate::proofs::Decimals::number_start, crate::proofs::Decimals::number_stop, crate::proofs::Decimals::number_turn, crate::proofs::Decimals::number_done))]
+#[tactic(auto, using(crate::proofs::Decimals::numbers))]
 pub fn number(s: &[u8]) -> Option<u64>
     ensures { result ≡ unsigned_of (number_of s.now) }
 {
@@ -62,7 +62,7 @@ pub fn number(s: &[u8]) -> Option<u64>
 }
 
 // A number with `-` in front or none, from - 2 ^ 63 to 2 ^ 63 - 1.
-#[tactic(auto, using(crate::proofs::Signs::signed_empty, crate::proofs::Signs::behind_minus, crate::proofs::Signs::without), unfolding(crate::specs::Decimals::plus, crate::specs::Decimals::minus))]
+#[tactic(auto, using(crate::proofs::Signs::signs), unfolding(crate::specs::Decimals::plus, crate::specs::Decimals::minus))]
 pub fn signed(s: &[u8]) -> Option<i64>
     ensures { result ≡ signed_of s.now }
 {

@@ -173,3 +173,8 @@ module _ (s : List ℕ) (i v : ℕ) where
       pub letter_isnt : (y ≡ v → ⊥) → None ≡ found
       unfolding letter_of
       letter_isnt q = one_not character _ s i x c (some_character s i r e x c g) (ne_eqb _ _ (λ (z : capital x ≡ v). q (f ∙ z)))
+
+-- a file letter by its byte, and by the character that stands there
+pub ruleset letters = (letter_end, letter_here, letter_not, letter_other)
+
+pub ruleset one_letter = (letter_none, letter_is, letter_isnt)

@@ -114,7 +114,7 @@ fn capital(x: u32) -> u32
 }
 
 // A character that stands for this capital letter.
-#[tactic(auto, using(crate::proofs::CharacterReaders::letter_none, crate::proofs::CharacterReaders::letter_is, crate::proofs::CharacterReaders::letter_isnt))]
+#[tactic(auto, using(crate::proofs::CharacterReaders::one_letter))]
 fn letter_of(c: Cur, s: &[u8], v: u8) -> Option<Cur>
     ensures { result ≡ place_at c.i s.now (letter_of utf8 v) }
 {
@@ -128,7 +128,7 @@ fn letter_of(c: Cur, s: &[u8], v: u8) -> Option<Cur>
 
 // A file letter: this capital one in either case, ı for I and ſ for S. A byte below 128 needs no decoding, and of the letters below 128 only I and S have a form
 // above U+007F. `v` is such a letter, and a constant, wherever this is called.
-#[tactic(auto, using(crate::proofs::CharacterReaders::letter_end, crate::proofs::CharacterReaders::letter_here, crate::proofs::CharacterReaders::letter_not, crate::proofs::CharacterReaders::letter_other))]
+#[tactic(auto, using(crate::proofs::CharacterReaders::letters))]
 pub fn letter(c: Cur, s: &[u8], v: u8) -> Option<Cur>
     ensures { result ≡ place_at c.i s.now (letter_of utf8 v) }
 {

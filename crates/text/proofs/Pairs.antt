@@ -172,3 +172,5 @@ module _ (s out : List ℕ) (h : false ≡ hex_text s) where
   pub unhex_none : true ≡ same s (45 ∷ []) → Unhexed s out (Some 0) out
   unfolding unhexed fitting
   unhex_none e = record { fits = omega arith; counts = refl; right = rw (← h, ← e, leb-zero (length out)); kept = refl; refused = λ z. cc }
+
+pub ruleset byte_strings = (unhex_no, unhex_none, unhex_full, unhex_done, text_even, text_hex)

@@ -14,7 +14,6 @@ fn digit(d: u8) -> u8
     if d < 10 { 48 + d } else { 55 + d }
 }
 
-#[tactic(auto, using(crate::proofs::Pairs::hex_turn, crate::proofs::Pairs::hex_done))]
 fn lay_hex(out: &mut [u8], at: usize, bytes: &[u8]) -> usize
     requires { at + 2 * length bytes.now ≤ length out.old }
     ensures { Wrote out.old at (hex bytes.now) result out.new }
@@ -58,7 +57,7 @@ fn all_digits(s: &[u8]) -> bool
     s.iter().all(|c| nibble(*c) < 16)
 }
 
-#[tactic(auto, using(crate::proofs::Pairs::digit_at, crate::proofs::Pairs::pairs_turn, crate::proofs::Pairs::pairs_done))]
+#[tactic(auto, using(crate::proofs::Pairs::digit_at))]
 fn lay_pairs(s: &[u8], out: &mut [u8]) -> usize
     requires { (length s.now % 2 ≡ 0) × (digits s.now ≡ true) × (length s.now ≤ 2 * length out.old) }
     ensures { Wrote out.old 0 (pairs s.now) result out.new }
@@ -79,12 +78,12 @@ fn is_digits(s: &[u8]) -> bool
 }
 
 // The bytes that a byte string stands for, at the start of out: how many.
-#[tactic(auto, using(crate::proofs::Pairs::unhex_no, crate::proofs::Pairs::unhex_none, crate::proofs::Pairs::unhex_full, crate::proofs::Pairs::unhex_done, crate::proofs::Pairs::text_even, crate::proofs::Pairs::text_hex))]
+#[tactic(auto, using(crate::proofs::Pairs::byte_strings))]
 pub fn unhex(s: &[u8], out: &mut [u8]) -> Option<usize>
     ensures { Unhexed s.now out.old result out.new }
 {
     if !is_digits(s) {
-        return if line::is(s, b"-") { Some(0) } else { None };
+        return line::is(s, b"-").then_some(0);
     }
     if out.len() < s.len() / 2 {
         return None;
@@ -93,7 +92,7 @@ pub fn unhex(s: &[u8], out: &mut [u8]) -> Option<usize>
 }
 
 // The number that so few digits stand for.
-#[tactic(auto, using(crate::proofs::Pairs::digit_at, crate::proofs::Exact::value_fits, crate::proofs::Exact::value_turn, crate::proofs::Exact::value_done))]
+#[tactic(auto, using(crate::proofs::Exact::value_done))]
 fn value(s: &[u8]) -> u32
     requires { (length s.now ≤ 8) × (digits s.now ≡ true) }
     ensures { (result ≡ hex_value 0 s.now) × (result < 16 ^ length s.now) }

@@ -32,14 +32,13 @@ fn part_start(s: &[u8], by: u8, k: usize) -> usize
     ensures { (result ≤ length s.now) × (part_at by 0 (drop result s.now) ≡ part_at by k s.now) }
 {
     let mut at = 0;
-    for i in 0..k {
+    for _i in 0..k {
         at = next_start(s, by, at);
     }
     at
 }
 
 // Part k of a text that is cut at each byte `by`, counted from 0; empty where there is none.
-
 pub fn part(s: &[u8], by: u8, k: usize) -> &[u8]
     ensures { result.now ≡ part_at by k s.now }
 {
