@@ -30,23 +30,11 @@ module _ (n : ℕ) (l : List ℕ) (o : Outcome) where
   pub too_few : length l < n → Stores (of_bytes n l o) l (Err NoSuchElement) l
   too_few h = no_store NoSuchElement l (rw (lt-ltb (length l) n h))
 
-  module _ (h : n ≤ length l) {r : Result (Unit {0}) Refusal} {m : List ℕ} where
-    pub all_there : Stores o l r m → Stores (of_bytes n l o) l r m
-    all_there w = rw (le-ltb (length l) n h) w
-
-    pub behind_19 : Stores (of_bytes n l o) l r m → Stores o l r m
-    behind_19 w = subst (λ (t : Bool). Stores (cond t (refused NoSuchElement) o) l r m) (le-ltb (length l) n h) w
+  pub all_there : n ≤ length l → {r : Result (Unit {0}) Refusal} {m : List ℕ} → Stores o l r m → Stores (of_bytes n l o) l r m
+  all_there h w = rw (le-ltb (length l) n h) w
 
 -- ---- the bits of a number
 module _ (ones low high : ℕ) (n : ℤ) where
-  pub is_out : bits_of ones low high n ≡ None → in_range low high n ≡ false
-  unfolding bits_of
-  is_out = go (in_range low high n)
-    where
-      go : (t : Bool) → cond t (Some (twos ones n)) None ≡ None → t ≡ false
-      go true e = cc
-      go false e = refl
-
   pub is_in : (b : ℕ) → bits_of ones low high n ≡ Some b → (in_range low high n ≡ true) × (twos ones n ≡ b)
   unfolding bits_of
   is_in b = go (in_range low high n)

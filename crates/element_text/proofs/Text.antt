@@ -15,7 +15,7 @@ use Rattle.base.proofs.Numbers.{low_length, low_zero}
 use Rattle.base.proofs.Parts.{drop_replicate}
 use Rattle.base.proofs.Put.{puts_both, put_first, put_rest, put_length}
 use Rattle.std.specs.Prelude.{Ok, Err}
-use Rattle.base.specs.declared.Refusal.TheVariants.{ShortOutput}
+use Rattle.base.specs.declared.refusal.Refusal.TheVariants.{ShortOutput}
 use Rattle.element_text.specs.Text.{swap_pairs, padded_swap, fitted, ascii_text, string_text, written_of, out_of}
 use Rattle.element_text.proofs.Swap.{swap_length}
 

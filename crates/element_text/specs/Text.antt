@@ -2,8 +2,8 @@
 use Rattle.std.specs.Prelude.{ℕ, ◌-◌, ◌%◌, cond, List, [], ◌∷◌, ◌++◌, ltb, length, take, replicate, Result, Ok, Err}
 use Rattle.base.specs.Numbers.{low_first}
 use Rattle.base.specs.Outcome.{Outcome, refused, lays, left}
-use Rattle.base.specs.declared.Refusal.{Refusal}
-use Rattle.base.specs.declared.Refusal.TheVariants.{ShortOutput}
+use Rattle.base.specs.declared.refusal.Refusal.{Refusal}
+use Rattle.base.specs.declared.refusal.Refusal.TheVariants.{ShortOutput}
 
 -- "byte pairs are swapped"; an odd last byte stays (the simulator's `swap_pairs`)
 unfoldable pub swap_pairs : List ℕ → List ℕ
