@@ -1,5 +1,5 @@
 -- What the call says, one law for each answer.
-use Rattle.std.specs.Prelude.{Option, None, Some}
+use Rattle.std.specs.Prelude.{Option, None, Some, Result, Ok, Err}
 use Prim.Native.Nat.{ℕ, zero, suc, ◌+◌, ◌-◌, ◌*◌, ◌/◌, ◌%◌, ◌≤◌, ◌<◌, min}
 use mathlib.Core.Path.{◌≡◌, refl, ap, sym, subst, ◌∙◌}
 use mathlib.Core.Bool.{Bool, true, false, not, ◌&&◌, cond, false≢true}
@@ -17,27 +17,26 @@ use Rattle.file_type.specs.declared.FileType.TheVariants.{O, I, S, B, T, C, R, N
 use Rattle.file_type.specs.Table.{row}
 use Rattle.file_type.proofs.FileTypes.{size_some, size_most}
 use Rattle.address_spec.specs.declared.Address.{Address}
-use Rattle.address_spec.specs.declared.Parsed.{Parsed}
-use Rattle.address_spec.specs.declared.Parsed.TheVariants as parsed
+use Rattle.base.specs.declared.refusal.Refusal.{Refusal}
+use Rattle.base.specs.declared.refusal.Refusal.TheVariants.{UnreadableReply, NoSuchValue}
 use Rattle.address_spec.specs.Spelling.{or_zero}
 use Rattle.address_readings.specs.Readings.{timed}
 use Rattle.reply_values_spec.specs.declared.DataType.{DataType}
 use Rattle.reply_values_spec.specs.declared.DataType.TheVariants.{Int}
-use Rattle.reply_values_spec.specs.declared.ReadReply.{ReadReply}
-use Rattle.reply_values_spec.specs.declared.ReadReply.TheVariants as reply
+use Rattle.reply_values_spec.specs.declared.ReplyValue.{ReplyValue}
 use Rattle.reply_values_spec.specs.Values.{Value, word, long, float, bit, text, data_type, value_of, decoded, least, parts, parts_in, collect, at_least_one, alone, bit_of, slice, word_place, bit_value, values_of, values, value_at, one_part, asked, on_address, reply_of, Reads}
 use Rattle.reply_values_spec.proofs.InParts.{one_part_lem, is_decoded, has_value, past_last, Collected, each_of, all_of, collected, cut_last}
 
 -- ---- refused, without a store
-refused_27 : (o : Option (List Value)) (i : ℕ) (l : List ℕ) → o ≡ None → Reads (asked i (length l) o) l (reply.Refused 27) l
+refused_27 : (o : Option (List Value)) (i : ℕ) (l : List ℕ) → o ≡ None → Reads (asked i (length l) o) l (Err UnreadableReply) l
 refused_27 o i l e = rw e (record { answer = refl; memory = refl })
 
-refused_28 : (o : Option (List Value)) (vs : List Value) (i : ℕ) (l : List ℕ) → o ≡ Some vs → length vs ≤ i → Reads (asked i (length l) o) l (reply.Refused 28) l
+refused_28 : (o : Option (List Value)) (vs : List Value) (i : ℕ) (l : List ℕ) → o ≡ Some vs → length vs ≤ i → Reads (asked i (length l) o) l (Err NoSuchValue) l
 refused_28 o vs i l e h = rw (e, past_last vs i h) (record { answer = refl; memory = refl })
 
 -- ---- in parts
 module _ (k : DataType) (size : ℕ) (s : List ℕ) (i : ℕ) (l : List ℕ) where
-  pub parts_none : length s ≡ 0 → Reads (asked i (length l) (at_least_one (collect (map (decoded k) (parts size s))))) l (reply.Refused 27) l
+  pub parts_none : length s ≡ 0 → Reads (asked i (length l) (at_least_one (collect (map (decoded k) (parts size s))))) l (Err UnreadableReply) l
   unfolding parts_in collect
   parts_none e = let z : at_least_one (collect (map (decoded k) (parts size s))) ≡ None = rw e in refused_27 _ i l z
 
@@ -61,7 +60,7 @@ module _ (k : DataType) (size : ℕ) (s : List ℕ) (i : ℕ) (l : List ℕ) whe
     pub rest_fits : Fits w64 ((length s - 1) % size + 1)
     rest_fits = record { fits = omega (arith, mod-lt (length s - 1) {m = size} least_size) }
 
-    pub parts_cut : {n : ℕ} → n ≡ least k → (length s - 1) % size + 1 < n → Reads (asked i (length l) (at_least_one (collect (map (decoded k) (parts size s))))) l (reply.Refused 27) l
+    pub parts_cut : {n : ℕ} → n ≡ least k → (length s - 1) % size + 1 < n → Reads (asked i (length l) (at_least_one (collect (map (decoded k) (parts size s))))) l (Err UnreadableReply) l
     parts_cut e h = refused_27 _ i l (ap at_least_one (cut_last k size most ((length s - 1) / size) (length s) s least_size (omega (arith, at_last, some_there)) up_to_last (omega arith) (omega (arith, rest))))
 
     module _ {n : ℕ} (e : n ≡ least k) (h : n ≤ (length s - 1) % size + 1) where
@@ -75,7 +74,7 @@ module _ (k : DataType) (size : ℕ) (s : List ℕ) (i : ℕ) (l : List ℕ) whe
       there : at_least_one (all_of k size (length s) s) ≡ Some all_there.all
       there = ap at_least_one all_there.is ∙ whole all_there.all (omega (arith, all_there.count))
 
-      pub parts_past : (length s - 1) / size < i → Reads (asked i (length l) (at_least_one (collect (map (decoded k) (parts size s))))) l (reply.Refused 28) l
+      pub parts_past : (length s - 1) / size < i → Reads (asked i (length l) (at_least_one (collect (map (decoded k) (parts size s))))) l (Err NoSuchValue) l
       parts_past q = refused_28 _ all_there.all i l there (omega (arith, all_there.count))
 
       module _ (q : i ≤ (length s - 1) / size) where
@@ -106,7 +105,7 @@ module _ (k : DataType) (size : ℕ) (s : List ℕ) (i : ℕ) (l : List ℕ) whe
                   let z : suc i * size ≤ length s - 1 = omega (arith, at_last, mul-le-mul_right {m = suc i} {n = (length s - 1) / size} size j) in
                   omega (arith, z, suc-mul i size, mod-lt (length s - 1) {m = size} least_size)
 
-        pub parts_read : {p : List ℕ} {r : ReadReply} {m : List ℕ} → p ≡ take size (drop (i * size) s) → Reads (one_part (length l) ((length s - 1) / size + 1) (value_of k p)) l r m
+        pub parts_read : {p : List ℕ} {r : Result (ReplyValue × ℕ) Refusal} {m : List ℕ} → p ≡ take size (drop (i * size) s) → Reads (one_part (length l) ((length s - 1) / size + 1) (value_of k p)) l r m
             → Reads (asked i (length l) (at_least_one (collect (map (decoded k) (parts size s))))) l r m
         parts_read {p} {r} {m} d w =
             let c : length all_there.all ≡ (length s - 1) / size + 1 = omega (arith, all_there.count) in
@@ -193,7 +192,7 @@ word_alone size (b ∷ w) h = ap (λ (ps : List (List ℕ)). at_least_one (colle
     go (Some v) = refl
 
 module _ (t : FileType) (flag : Bool) (sub : ℕ) (s : List ℕ) (i : ℕ) (l : List ℕ) {b : Bool} (a : b ≡ (flag && eqb (word_place t sub) 0)) {k : DataType} {size : ℕ} (e : k ≡ data_type t)
-    (z : size ≡ (row t).size) {r : ReadReply} where
+    (z : size ≡ (row t).size) {r : Result (ReplyValue × ℕ) Refusal} where
   pub bit_read : {p : List ℕ} → b ≡ true → p ≡ take size (drop 0 s) → r ≡ reply_of (asked i 0 (alone (bit_of sub (decoded k p)))) → Reads (asked i (length l) (values_of t flag sub s)) l r l
   unfolding values_of bit_value
   bit_read {p} h d f =
@@ -214,7 +213,7 @@ module _ (t : FileType) (flag : Bool) (sub : ℕ) (s : List ℕ) (i : ℕ) (l : 
           rw (q, d, e, z, j) (word_alone (row t).size (slice (word_place t sub) t s) n)
 
 -- `values` of an address is by its type, bit flag and sub-element
-pub by_address : (x : Address) (s : List ℕ) (i : ℕ) (l : List ℕ) {sub : ℕ} {r : ReadReply} {m : List ℕ} → sub ≡ or_zero x.sub_element
+pub by_address : (x : Address) (s : List ℕ) (i : ℕ) (l : List ℕ) {sub : ℕ} {r : Result (ReplyValue × ℕ) Refusal} {m : List ℕ} → sub ≡ or_zero x.sub_element
     → Reads (asked i (length l) (values_of x.file_type x.bit sub s)) l r m → Reads (asked i (length l) (values x s)) l r m
 by_address x s i l e w = rw (← e) w
 
@@ -222,9 +221,9 @@ pub element_sized : (t : FileType) {size : ℕ} → size ≡ (row t).size → (1
 element_sized t e = (rw e (size_some t), rw e (size_most t))
 
 -- ---- 1, 2 and 39
-module _ (s : List ℕ) (i : ℕ) (l : List ℕ) {p q : Parsed} (e : p ≡ q) where
-  pub no_address_lem : (n : ℕ) → p ≡ parsed.Refused n → Reads (on_address q s i (length l)) l (reply.Refused n) l
+module _ (s : List ℕ) (i : ℕ) (l : List ℕ) {p q : Result Address Refusal} (e : p ≡ q) where
+  pub no_address_lem : (n : Refusal) → p ≡ Err n → Reads (on_address q s i (length l)) l (Err n) l
   no_address_lem n h = rw (← e, h) (record { answer = refl; memory = refl })
 
-  pub on_address_lem : (x : Address) {r : ReadReply} {m : List ℕ} → p ≡ parsed.Is x → Reads (asked i (length l) (values x s)) l r m → Reads (on_address q s i (length l)) l r m
+  pub on_address_lem : (x : Address) {r : Result (ReplyValue × ℕ) Refusal} {m : List ℕ} → p ≡ Ok x → Reads (asked i (length l) (values x s)) l r m → Reads (on_address q s i (length l)) l r m
   on_address_lem x h w = rw (← e, h) w

@@ -1,5 +1,5 @@
 -- Values from the data of a read reply (document 02, A1, "Values from a read reply."): word, long, float, bit or text, "as many as the Rust's call gives" (`parse_read_reply` of pccc.rs).
-use Rattle.std.specs.Prelude.{ℕ, zero, suc, ◌/◌, ◌%◌, ◌^◌, ◌≡◌, Bool, not, cond, List, [], ◌∷◌, map, leb, eqb, ℤ, pos, negsuc, length, take, drop, Option, None, Some}
+use Rattle.std.specs.Prelude.{ℕ, zero, suc, ◌/◌, ◌%◌, ◌^◌, ◌≡◌, Bool, not, cond, List, [], ◌∷◌, map, leb, eqb, ℤ, pos, negsuc, length, take, drop, Option, None, Some, Result, Ok, Err}
 use Rattle.base.specs.Numbers.{number}
 use Rattle.base.specs.Put.{put}
 use Rattle.file_type.specs.declared.FileType.{FileType}
@@ -8,16 +8,14 @@ use Rattle.file_type.specs.Table.{row}
 use Rattle.element_text.specs.Text.{padded_swap}
 use Rattle.element_whole.specs.Whole.{signed}
 use Rattle.address_spec.specs.declared.Address.{Address}
-use Rattle.address_spec.specs.declared.Parsed.{Parsed}
-use Rattle.address_spec.specs.declared.Parsed.TheVariants as parsed
+use Rattle.base.specs.declared.refusal.Refusal.{Refusal}
+use Rattle.base.specs.declared.refusal.Refusal.TheVariants.{ShortTextMemory, UnreadableReply, NoSuchValue}
 use Rattle.address_spec.specs.Spelling.{or_zero}
 use Rattle.address_readings.specs.Readings.{timed}
 use Rattle.reply_values_spec.specs.declared.DataType.{DataType}
 use Rattle.reply_values_spec.specs.declared.DataType.TheVariants.{Int, DInt, Real, Ascii, Line, No}
 use Rattle.reply_values_spec.specs.declared.ReplyValue.{ReplyValue}
 use Rattle.reply_values_spec.specs.declared.ReplyValue.TheVariants as value
-use Rattle.reply_values_spec.specs.declared.ReadReply.{ReadReply}
-use Rattle.reply_values_spec.specs.declared.ReadReply.TheVariants as reply
 
 -- "word, long, float, bit or text"; a float by its bits
 pub data Value : Type 0 where
@@ -141,38 +139,37 @@ value_at i [] = None
 value_at zero (v ∷ vs) = Some v
 value_at (suc i) (v ∷ vs) = value_at i vs
 
--- what the call says: the number of a refusal, or a value and how many there are
-pub data Says : Type 0 where
-  refuses : ℕ → Says
-  gives : Value → ℕ → Says
+-- what the call says: a refusal, or a value and how many there are
+abbrev pub Says : Type 0
+Says = Result (Value × ℕ) Refusal
 
 -- "then 24 when the value is text and its output is below 82 bytes"
 abbrev pub in_room : ℕ → ℕ → Value → Says
-in_room room n (word z) = gives (word z) n
-in_room room n (long z) = gives (long z) n
-in_room room n (float b) = gives (float b) n
-in_room room n (bit b) = gives (bit b) n
-in_room room n (text s) = cond (leb 82 room) (gives (text s) n) (refuses 24)
+in_room room n (word z) = Ok (word z, n)
+in_room room n (long z) = Ok (long z, n)
+in_room room n (float b) = Ok (float b, n)
+in_room room n (bit b) = Ok (bit b, n)
+in_room room n (text s) = cond (leb 82 room) (Ok (text s, n)) (Err ShortTextMemory)
 
 -- one of so many values; "27 when the Rust's call fails", as it does where there is none
 abbrev pub one_part : ℕ → ℕ → Option Value → Says
-one_part room n None = refuses 27
+one_part room n None = Err UnreadableReply
 one_part room n (Some v) = in_room room n v
 
 -- "28 when the index is past the last value"
 abbrev pub picked : ℕ → ℕ → Option Value → Says
-picked room n None = refuses 28
+picked room n None = Err NoSuchValue
 picked room n (Some v) = in_room room n v
 
 -- "27 when the Rust's call fails"
 abbrev pub asked : ℕ → ℕ → Option (List Value) → Says
-asked i room None = refuses 27
+asked i room None = Err UnreadableReply
 asked i room (Some vs) = picked room (length vs) (value_at i vs)
 
 -- "Turned away, after 1 and 2" (A12: "39 .. right after 2")
-abbrev pub on_address : Parsed → List ℕ → ℕ → ℕ → Says
-on_address (parsed.Refused n) s i room = refuses n
-on_address (parsed.Is x) s i room = asked i room (values x s)
+abbrev pub on_address : Result Address Refusal → List ℕ → ℕ → ℕ → Says
+on_address (Err e) s i room = Err e
+on_address (Ok x) s i room = asked i room (values x s)
 
 -- ---- what the call answers, and the memory that it leaves
 abbrev pub value_as : Value → ReplyValue
@@ -182,9 +179,9 @@ value_as (float b) = value.Float b
 value_as (bit b) = value.Bit b
 value_as (text s) = value.Text (length s)
 
-abbrev pub reply_of : Says → ReadReply
-reply_of (refuses n) = reply.Refused n
-reply_of (gives v n) = reply.Is (value_as v) n
+abbrev pub reply_of : Says → Result (ReplyValue × ℕ) Refusal
+reply_of (Err e) = Err e
+reply_of (Ok g) = Ok (value_as g.0, g.1)
 
 -- document 01: "A success writes its stated bytes and nothing behind them."
 abbrev pub value_left : Value → List ℕ → List ℕ
@@ -195,9 +192,9 @@ value_left (bit b) l = l
 value_left (text s) l = put l 0 s
 
 abbrev pub left : Says → List ℕ → List ℕ
-left (refuses n) l = l
-left (gives v n) l = value_left v l
+left (Err e) l = l
+left (Ok g) l = value_left g.0 l
 
-pub record Reads (o : Says) (l : List ℕ) (r : ReadReply) (l' : List ℕ) : Type 0 where
+pub record Reads (o : Says) (l : List ℕ) (r : Result (ReplyValue × ℕ) Refusal) (l' : List ℕ) : Type 0 where
   pub answer : r ≡ reply_of o
   pub memory : l' ≡ left o l
