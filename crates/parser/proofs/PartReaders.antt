@@ -6,7 +6,7 @@ use Prim.Native.Char.{Char}
 use Prim.Native.Nat.{ℕ, ◌+◌, ◌≤◌, ◌<◌, ◌-◌}
 use mathlib.Core.Path.{◌≡◌, refl, ap, sym, ◌∙◌}
 use mathlib.Core.List.{List, [], ◌∷◌}
-use mathlib.Core.Bool.{Bool, true, false, ◌&&◌}
+use mathlib.Core.Bool.{Bool, true, false}
 use native.Mathlib.Nat.{add-sub_cancel_left}
 use native.Mathlib.Omega.{arith}
 use borrow.Author.Tests.{le-leb, lt-leb, leb-true, leb-false, lt-ltb, le-ltb, eq-eqb, ne_eqb}
@@ -225,23 +225,13 @@ module _ {A : Type 0} (s : List ℕ) (k : Unit {0} → Part A) where
   unfolding then here
   here_yes t e = rw e
 
-  -- at most, and from low to high
+  -- at most
   module _ (high n : ℕ) where
     pub above : high < n → then (here (leb n high) s) k ≡ None
     above h = here_no _ (lt-leb n high h)
 
     pub at_most : (y : Option (A × List ℕ)) → n ≤ high → k tt s ≡ y → then (here (leb n high) s) k ≡ y
     at_most y h e = here_yes _ (le-leb n high h) ∙ e
-
-    module _ (low : ℕ) where
-      pub too_low : n < low → then (here (leb low n && leb n high) s) k ≡ None
-      too_low h = here_no _ (rw (lt-leb low n h))
-
-      pub too_high : low ≤ n → high < n → then (here (leb low n && leb n high) s) k ≡ None
-      too_high l h = here_no _ (rw (le-leb low n l, lt-leb n high h))
-
-      pub in_range_at : (t : List ℕ) (i : ℕ) (q : Option (A × Cur)) → low ≤ n → n ≤ high → q ≡ placed i t (k tt s) → q ≡ placed i t (then (here (leb low n && leb n high) s) k)
-      in_range_at t i q l h e = e ∙ ap (placed i t) (sym (here_yes _ (rw (le-leb low n l, le-leb n high h))))
 
 -- that a part leaves a part of the text
 pub ruleset leaving = (byte_leaves, letter_leaves, numeral_leaves, digits_leaves, in_leaves, first_leaves, number_leaves, count_leaves)

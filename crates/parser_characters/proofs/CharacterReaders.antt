@@ -1,9 +1,13 @@
 -- Laws by which the readers of characters are proved: each says what a part gives from what the reader met.
 use Rattle.std.specs.Prelude.{Option, None, Some}
-use Prim.Native.Nat.{ℕ, ◌+◌, ◌*◌, ◌-◌, ◌≤◌, ◌<◌}
+use Rattle.std.specs.Prelude.{map}
+use lib.Seq.{drop-cons}
+use Prim.Native.Nat.{zero, suc, ◌^◌, ℕ, ◌+◌, ◌*◌, ◌-◌, ◌≤◌, ◌<◌}
 use mathlib.Core.Path.{◌≡◌, refl, sym, ◌∙◌}
 use mathlib.Core.List.{List, [], ◌∷◌}
 use mathlib.Core.Bool.{Bool, true, false, cond}
+use native.Mathlib.Nat.{pow-suc, mul_assoc, mul-le-mul_left, mul-le-mul_right}
+use native.Mathlib.Numerals.{add-one}
 use native.Mathlib.Omega.{arith}
 use borrow.Author.Tests.{leb-true, leb-false, eq-eqb, ne_eqb}
 use lib.Dec.{leb, eqb}
@@ -47,9 +51,43 @@ module _ (s : List ℕ) (i first n : ℕ) (r : Range) (rs : List Range) (w q : O
   unfolding point_in bytes_in then
   more_bytes a m c g l h = let o = some_read s i w a c e g (byte_in_leaves r (drop i s)) in placed_on s i q _ _ o (rw (o.is, l)) h
 
-pub last_byte : (s : List ℕ) (i first n : ℕ) (r : Range) (w : Option (ℕ × Cur)) → w ≡ placed i s (byte_in r (drop i s)) → (a : ℕ) (c : Cur) → w ≡ Some (a, c) → Some (first + (n * 64 + a), c) ≡ placed i s (point_in first n (r ∷ []) (drop i s))
-unfolding point_in bytes_in then
-last_byte s i first n r w e a c g = more_bytes s i first n r [] w _ e a _ c g refl (give_at s (first + (n * 64 + a)) c)
+-- the bytes that are left of those behind the first one
+abbrev pub ranges : List (ℕ × ℕ) → List Range
+ranges l = map (λ r. r.0 to r.1) l
+
+module _ (s : List ℕ) (i first n : ℕ) (l : List (ℕ × ℕ)) (j : ℕ) where
+  left : ℕ → Option (ℕ × Cur)
+  left k = placed i s (point_in first n (ranges (drop k l)) (drop i s))
+
+  module _ (d : ℕ × ℕ) (h : j < length l) (w : Option (ℕ × Cur)) (e : w ≡ placed i s (byte_in ((get_or l j d).0 to (get_or l j d).1) (drop i s))) where
+    next_left : drop j l ≡ get_or l j d ∷ drop (j + 1) l
+    next_left = rw add-one (drop-cons l j d h)
+
+    pub behind_none : (q : Option (ℕ × Cur)) → w ≡ None → q ≡ None → q ≡ placed i s (point_in first n (ranges (drop j l)) (drop i s))
+    behind_none q g k = rw next_left (no_byte s i first n _ (ranges (drop (j + 1) l)) w q e g k)
+
+    pub behind_more : (a m : ℕ) (c : Cur) → w ≡ Some (a, c) → m ≡ n * 64 + a → placed c.i s (point_in first m (ranges (drop (j + 1) l)) (drop c.i s)) ≡ placed i s (point_in first n (ranges (drop j l)) (drop i s))
+    behind_more a m c g k = rw next_left (more_bytes s i first n _ (ranges (drop (j + 1) l)) w _ e a m c g k refl)
+
+  pub behind_all : length l ≤ j → Some (first + n, record { i = i }) ≡ placed i s (point_in first n (ranges (drop j l)) (drop i s))
+  unfolding point_in bytes_in then
+  behind_all h = rw (drop_of_length-le l h) (give_at s (first + n) (record { i = i }))
+
+-- their number stays small enough
+power_pos : (k : ℕ) → 1 ≤ 64 ^ k
+power_pos zero = omega arith
+power_pos (suc k) = let e : 64 ^ suc k ≡ 64 ^ k * 64 = pow-suc 64 k in omega (arith, power_pos k)
+
+module _ (k n : ℕ) (b : 64 ^ k * (n + 5) ≤ 1073741824) where
+  pub number_small : n + 5 ≤ 1073741824
+  number_small = omega (arith, mul-le-mul_right (n + 5) (power_pos k))
+
+pub number_more : (k j n a m : ℕ) → k ≡ suc j → a < 256 → m ≡ n * 64 + a → 64 ^ k * (n + 5) ≤ 1073741824 → (64 ^ j * (m + 5) ≤ 1073741824) × (n * 64 + a < 4294967296)
+number_more k j n a m f h g b =
+    let e : 64 ^ k * (n + 5) ≡ 64 ^ j * (64 * (n + 5)) = rw (f, pow-suc) (mul_assoc (64 ^ j) 64 (n + 5)) in
+    let u : 64 ^ j * (m + 5) ≤ 64 ^ j * (64 * (n + 5)) = mul-le-mul_left (64 ^ j) (omega arith) in
+    let v : 1 * (64 * (n + 5)) ≤ 64 ^ j * (64 * (n + 5)) = mul-le-mul_right (64 * (n + 5)) (power_pos j) in
+    (omega arith, omega arith)
 
 -- ---- the first byte, and its row
 module _ (s : List ℕ) (i : ℕ) where

@@ -1,7 +1,7 @@
 // Characters of a text in UTF-8, read from a cursor on, and file letters.
 #![tactic(auto)]
 
-ghost use Rattle.std.specs.Prelude.{◌≡◌, [], ◌∷◌, ◌≤◌, drop};
+ghost use Rattle.std.specs.Prelude.{◌≡◌, ◌+◌, ◌*◌, ◌^◌, ◌≤◌, length, drop, map};
 ghost use Rattle.parser_spec.specs.Characters.{◌to◌, byte_in, point_in, character as characters_character, well_formed, capital as characters_capital, utf8, letter_of};
 ghost use Rattle.parser.specs.CursorAnswers.{read_at, place_at};
 
@@ -19,34 +19,23 @@ fn byte_in(c: Cur, s: &[u8], low: u8, high: u8) -> Option<(u8, Cur)>
     Some((s[i] - low, Cur { i: i + 1 }))
 }
 
-// The last byte of a character, behind the number `n`.
-#[tactic(auto, using(crate::proofs::CharacterReaders::no_byte, crate::proofs::CharacterReaders::last_byte))]
-fn one_behind(c: Cur, s: &[u8], first: u32, n: u32, low: u8, high: u8) -> Option<(u32, Cur)>
-    requires { (first ≤ 0x100000) × (n ≤ 0xFFFFFF) }
-    ensures { result ≡ read_at c.i s.now (point_in first n (low to high ∷ [])) }
+// The bytes behind a character's first one, each of its range, with the number `n` of those before them.
+fn bytes_behind(
+    mut c: Cur,
+    s: &[u8],
+    first: u32,
+    mut n: u32,
+    trail: &[(u8, u8)],
+) -> Option<(u32, Cur)>
+    requires { (first ≤ 0x100000) × (64 ^ length trail.now * (n + 5) ≤ 2 ^ 30) }
+    ensures { result ≡ read_at c.i s.now (point_in first n (map (λ r. r.0 to r.1) trail.now)) }
 {
-    let (a, d) = byte_in(c, s, low, high)?;
-    Some((first + (n * 64 + u32::from(a)), d))
-}
-
-// The last two.
-#[tactic(auto, using(crate::proofs::CharacterReaders::no_byte))]
-fn two_behind(c: Cur, s: &[u8], first: u32, n: u32, low: u8, high: u8) -> Option<(u32, Cur)>
-    requires { (first ≤ 0x100000) × (n ≤ 0x1FFFF) }
-    ensures { result ≡ read_at c.i s.now (point_in first n (low to high ∷ 0x80 to 0xBF ∷ [])) }
-{
-    let (a, d) = byte_in(c, s, low, high)?;
-    one_behind(d, s, first, n * 64 + u32::from(a), 0x80, 0xBF)
-}
-
-// The last three.
-#[tactic(auto, using(crate::proofs::CharacterReaders::no_byte))]
-fn three_behind(c: Cur, s: &[u8], first: u32, n: u32, low: u8, high: u8) -> Option<(u32, Cur)>
-    requires { (first ≤ 0x100000) × (n ≤ 0xFF) }
-    ensures { result ≡ read_at c.i s.now (point_in first n (low to high ∷ 0x80 to 0xBF ∷ 0x80 to 0xBF ∷ [])) }
-{
-    let (a, d) = byte_in(c, s, low, high)?;
-    two_behind(d, s, first, n * 64 + u32::from(a), 0x80, 0xBF)
+    for r in trail {
+        let (a, d) = byte_in(c, s, r.0, r.1)?;
+        n = n * 64 + u32::from(a);
+        c = d;
+    }
+    Some((first + n, c))
 }
 
 // One character, by the Unicode Standard's table of well-formed byte sequences, a row to a line.
@@ -62,14 +51,32 @@ pub fn character(c: Cur, s: &[u8]) -> Option<(u32, Cur)>
     let d = Cur { i: i + 1 };
     match b {
         0x00..=0x7F => Some((n, d)),
-        0xC2..=0xDF => one_behind(d, s, 0x80, n - 0xC2, 0x80, 0xBF),
-        0xE0 => two_behind(d, s, 0x800, 0, 0xA0, 0xBF),
-        0xE1..=0xEC => two_behind(d, s, 0x1000, n - 0xE1, 0x80, 0xBF),
-        0xED => two_behind(d, s, 0xD000, 0, 0x80, 0x9F),
-        0xEE..=0xEF => two_behind(d, s, 0xE000, n - 0xEE, 0x80, 0xBF),
-        0xF0 => three_behind(d, s, 0x10000, 0, 0x90, 0xBF),
-        0xF1..=0xF3 => three_behind(d, s, 0x40000, n - 0xF1, 0x80, 0xBF),
-        0xF4 => three_behind(d, s, 0x100000, 0, 0x80, 0x8F),
+        0xC2..=0xDF => bytes_behind(d, s, 0x80, n - 0xC2, &[(0x80, 0xBF)]),
+        0xE0 => bytes_behind(d, s, 0x800, 0, &[(0xA0, 0xBF), (0x80, 0xBF)]),
+        0xE1..=0xEC => bytes_behind(d, s, 0x1000, n - 0xE1, &[(0x80, 0xBF), (0x80, 0xBF)]),
+        0xED => bytes_behind(d, s, 0xD000, 0, &[(0x80, 0x9F), (0x80, 0xBF)]),
+        0xEE..=0xEF => bytes_behind(d, s, 0xE000, n - 0xEE, &[(0x80, 0xBF), (0x80, 0xBF)]),
+        0xF0 => bytes_behind(
+            d,
+            s,
+            0x10000,
+            0,
+            &[(0x90, 0xBF), (0x80, 0xBF), (0x80, 0xBF)],
+        ),
+        0xF1..=0xF3 => bytes_behind(
+            d,
+            s,
+            0x40000,
+            n - 0xF1,
+            &[(0x80, 0xBF), (0x80, 0xBF), (0x80, 0xBF)],
+        ),
+        0xF4 => bytes_behind(
+            d,
+            s,
+            0x100000,
+            0,
+            &[(0x80, 0x8F), (0x80, 0xBF), (0x80, 0xBF)],
+        ),
         _ => None,
     }
 }

@@ -130,9 +130,6 @@ module _ (s : List ℕ) where
     pub text_hex : digits s ≡ true
     text_hex = (both (eqb (length s % 2) 0) (digits s) parts.1).1
 
-    pub text_room : (out : List ℕ) → length s / 2 ≤ length out → length s ≤ 2 * length out
-    text_room out g = omega (arith, text_even)
-
     text_bytes : unhexed s ≡ Some (pairs s)
     unfolding unhexed
     text_bytes = rw h
