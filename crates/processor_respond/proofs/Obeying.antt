@@ -9,6 +9,7 @@ use Rattle.processor_spec.specs.declared.Slc.{Slc}
 use Rattle.processor_spec.specs.Pccc.{memory_left, slc_left, left, left_by}
 use Rattle.processor_spec.specs.Plain.{entries}
 use Rattle.processor_spec.specs.Step.{popped}
+use Rattle.processor_query.specs.declared.Layout.{Layout}
 use Rattle.processor_query.specs.declared.Query.{Query}
 use Rattle.processor_query.specs.declared.Wants.{Wants}
 use Rattle.processor_query.specs.declared.Wants.TheVariants as wants
@@ -30,9 +31,9 @@ module _ (slc : Slc) (s : Seen) (q : Query) (m log c reply reply' : List ℕ) (r
   unfolding obey_step
   wants_bad w a = by_wants wants.Bad w (kept slc m log c reply reply' r 0xF0 _ a)
 
-  pub wants_directory : q.wants ≡ wants.Directory → Answers (tells_bad c) slc [] reply r reply' → left r m reply' ≡ left_by (obey_step q.wants slc s q m log c) slc m log reply
+  pub wants_directory : (l : Layout) → q.wants ≡ wants.Directory l → Answers (tells_bad c) slc [] reply r reply' → left r m reply' ≡ left_by (obey_step q.wants slc s q m log c) slc m log reply
   unfolding obey_step
-  wants_directory w a = by_wants wants.Directory w (kept slc m log c reply reply' r 0xF0 _ a)
+  wants_directory l w a = by_wants (wants.Directory l) w (kept slc m log c reply reply' r 0xF0 _ a)
 
   pub wants_diagnostic : q.wants ≡ wants.Diagnostic → Answers (status_step slc c) slc [] reply r reply' → left r m reply' ≡ left_by (obey_step q.wants slc s q m log c) slc m log reply
   unfolding obey_step status_step
