@@ -1,5 +1,5 @@
 // Values from the bytes of an element.
-ghost use Rattle.std.specs.Prelude.{◌≡◌, ◌≤◌, min, length, take, drop};
+ghost use Rattle.std.specs.Prelude.{◌≡◌, ◌-◌, ◌^◌, ◌≤◌, min, length, take, drop};
 ghost use Rattle.element_text.specs.Text.{swap_pairs};
 ghost use Rattle.element_spec.specs.Decode.{Reads, text_in, word_at, named_bits};
 ghost use Rattle.element_whole.specs.Whole.{signed};
@@ -9,12 +9,24 @@ use element_spec::Element;
 use element_whole::signed_word;
 use file_type::FileType;
 
+// All bits of a word below this one. A type without named bits asks for 16, which has no mask: the whole word.
+fn bits_below(b: usize) -> u16
+    requires { b ≤ 16 }
+    ensures { result ≡ 2 ^ b - 1 }
+{
+    if b < 16 {
+        base::bit_mask(b) - 1
+    } else {
+        0xFFFF
+    }
+}
+
 // Word 0 with the bits that have no name cleared.
 fn named_bits(t: FileType, w: u16) -> u16
     ensures { result ≡ named_bits t w }
 {
-    let w = u32::from(w);
-    (w - w % (1 << (16 - file_type_fields::bits(t)))) as u16
+    let unnamed = 16 - file_type_fields::bits(t);
+    w - (w & bits_below(unnamed))
 }
 
 pub fn fields(t: FileType, element: &[u8]) -> Element
