@@ -1,5 +1,5 @@
 -- Laws of decimal text.
-use Rattle.std.specs.Prelude.{Option, None, Some}
+use Rattle.std.specs.Prelude.{Option, None, Some, option_and_then}
 use Prim.Native.Nat.{ℕ, zero, suc, ◌+◌, ◌*◌, ◌-◌, ◌/◌, ◌%◌, ◌^◌, ◌≤◌, ◌<◌}
 use mathlib.Core.Path.{◌≡◌, refl, ap, sym, subst, ◌∙◌}
 use mathlib.Core.List.{List, [], ◌∷◌}
@@ -103,50 +103,18 @@ too_large n (c ∷ s) h = go (is_digit c) (too_large (n * 10 + (c - 48)) s (omeg
     go true e = e
     go false e = refl
 
--- what is known of an answer
-not_no : (m : ℕ) → Some m ≡ None → ⊥
-not_no m e = let z : ◌≡◌ {A = ℕ} 0 1 = cc in omega arith
+-- the first digit stops it, or makes the number that the others stand behind
+digit_first : (n c : ℕ) (s : List ℕ) → unsigned_of (number_from n (c ∷ s)) ≡ option_and_then (λ m. unsigned_of (number_from m s)) (unsigned_of (number_from n (c ∷ [])))
+unfolding number_from unsigned_of
+digit_first n c s = go (is_digit c)
+  where
+    over : (x : ℕ) (t : Bool) → ltb x 18446744073709551616 ≡ t → unsigned_of (number_from x s) ≡ option_and_then (λ m. unsigned_of (number_from m s)) (cond t (Some x) None)
+    over x true e = refl
+    over x false e = too_large x s (ltb-false _ _ e)
 
-pub not_none : (m : ℕ) → Some m ≡ unsigned_of None → ⊥
-unfolding unsigned_of
-not_none m e = not_no m e
-
-module _ (x : ℕ) where
-  pub is_read : (m : ℕ) → Some m ≡ unsigned_of (Some x) → (m ≡ x) × (x < 18446744073709551616)
-  unfolding unsigned_of
-  is_read m e = go (ltb x 18446744073709551616) refl e
-    where
-      go : (t : Bool) → ltb x 18446744073709551616 ≡ t → Some m ≡ cond t (Some x) None → (m ≡ x) × (x < 18446744073709551616)
-      go true h f = (cc, ltb-true x 18446744073709551616 h)
-      go false h f = absurd (not_no m f)
-
-  pub no_read : None ≡ unsigned_of (Some x) → 18446744073709551616 ≤ x
-  unfolding unsigned_of
-  no_read e = go (ltb x 18446744073709551616) refl e
-    where
-      go : (t : Bool) → ltb x 18446744073709551616 ≡ t → None ≡ cond t (Some x) None → 18446744073709551616 ≤ x
-      go true h f = absurd (not_no x (sym f))
-      go false h f = ltb-false x 18446744073709551616 h
-
--- the first digit was read, or stops it
-module _ (n c : ℕ) (s : List ℕ) where
-  digit_more : (m : ℕ) → Some m ≡ unsigned_of (number_from n (c ∷ [])) → (m < 18446744073709551616) × (unsigned_of (number_from m s) ≡ unsigned_of (number_from n (c ∷ s)))
-  unfolding number_from
-  digit_more m e = go (is_digit c) e
-    where
-      go : (t : Bool) → Some m ≡ unsigned_of (cond t (Some (n * 10 + (c - 48))) None) → (m < 18446744073709551616) × (unsigned_of (number_from m s) ≡ unsigned_of (cond t (number_from (n * 10 + (c - 48)) s) None))
-      go true e =
-          let k = is_read (n * 10 + (c - 48)) m e in
-          (omega arith, ap (λ (x : ℕ). unsigned_of (number_from x s)) k.0)
-      go false e = absurd (not_none m e)
-
-  digit_stop : None ≡ unsigned_of (number_from n (c ∷ [])) → unsigned_of (number_from n (c ∷ s)) ≡ None
-  unfolding number_from unsigned_of
-  digit_stop e = go (is_digit c) e
-    where
-      go : (t : Bool) → None ≡ unsigned_of (cond t (Some (n * 10 + (c - 48))) None) → unsigned_of (cond t (number_from (n * 10 + (c - 48)) s) None) ≡ None
-      go true e = too_large (n * 10 + (c - 48)) s (no_read (n * 10 + (c - 48)) e)
-      go false e = refl
+    go : (t : Bool) → unsigned_of (cond t (number_from (n * 10 + (c - 48)) s) None) ≡ option_and_then (λ m. unsigned_of (number_from m s)) (unsigned_of (cond t (Some (n * 10 + (c - 48))) None))
+    go true = over (n * 10 + (c - 48)) _ refl
+    go false = refl
 
 pub number_empty : (s : List ℕ) → length s ≡ 0 → None ≡ unsigned_of (number_of s)
 unfolding number_of unsigned_of
@@ -158,19 +126,11 @@ unfolding number_of
 number_start [] h = absurd (h refl)
 number_start (c ∷ s) h = refl
 
-module _ (s : List ℕ) (n i : ℕ) (e : unsigned_of (number_from n (drop i s)) ≡ unsigned_of (number_of s)) where
-  module _ (a : Option ℕ) (h : i < length s) (f : a ≡ unsigned_of (number_from n (get_or s i 0 ∷ []))) where
-    pub number_stop : (q : Option ℕ) → q ≡ None → a ≡ None → q ≡ unsigned_of (number_of s)
-    number_stop q k g =
-        k ∙ sym (digit_stop n (get_or s i 0) (drop (i + 1) s) (sym g ∙ f)) ∙ ap (λ (l : List ℕ). unsigned_of (number_from n l)) (sym (drop_next s i h)) ∙ e
+pub number_step : (s : List ℕ) (n i : ℕ) (a : Option ℕ) → i < length s → a ≡ unsigned_of (number_from n (get_or s i 0 ∷ [])) → unsigned_of (number_from n (drop i s)) ≡ option_and_then (λ m. unsigned_of (number_from m (drop (i + 1) s))) a
+number_step s n i a h f = rw (drop_next s i h, f) (digit_first n (get_or s i 0) (drop (i + 1) s))
 
-    pub number_turn : (m : ℕ) → a ≡ Some m → (m < 18446744073709551616) × (unsigned_of (number_from m (drop (i + 1) s)) ≡ unsigned_of (number_of s))
-    number_turn m g =
-        let k = digit_more n (get_or s i 0) (drop (i + 1) s) m (sym g ∙ f) in
-        (k.0, k.1 ∙ ap (λ (l : List ℕ). unsigned_of (number_from n l)) (sym (drop_next s i h)) ∙ e)
+pub number_done : (s : List ℕ) (n i : ℕ) → length s ≤ i → n < 18446744073709551616 → Some n ≡ unsigned_of (number_from n (drop i s))
+unfolding number_from unsigned_of
+number_done s n i h g = rw (drop_of_length-le s h, lt-ltb n 18446744073709551616 g)
 
-  pub number_done : length s ≤ i → n < 18446744073709551616 → Some n ≡ unsigned_of (number_of s)
-  unfolding number_from unsigned_of
-  number_done h g = rw (drop_of_length-le s h, lt-ltb n 18446744073709551616 g) at e
-
-pub ruleset numbers = (number_empty, number_start, number_stop, number_turn, number_done)
+pub ruleset numbers = (number_empty, number_start, number_step)

@@ -141,6 +141,8 @@ module _ (s : List ℕ) (i : ℕ) (inv : well_formed (drop i s) ≡ well_formed 
           let q : character_in table (get_or s i 0 ∷ drop (i + 1) s) ≡ Some (x, drop c.i s) = rw (drop_next s i h) at (some_character s i r e x c g).is in
           omega (arith, (held_of (lead_read table (get_or s i 0) (drop (i + 1) s)) q).shorter, length-drop c.i s, length-drop (i + 1) s)
 
+pub ruleset forming = (formed_end, formed_stop, formed_more, formed_less)
+
 -- ---- one character that passes a test: there is none
 module _ (test : ℕ → Bool) (s : List ℕ) (i : ℕ) where
   pub none_left : length s ≤ i → None ≡ place_of (placed i s (one character test (drop i s)))

@@ -95,12 +95,13 @@ fn ascii_run(s: &[u8]) -> usize
 }
 
 // Are all of the bytes characters? From the first one above U+007F on each is decoded.
+#[tactic(auto, using(crate::proofs::CharacterReaders::forming))]
 pub fn is_well_formed(s: &[u8]) -> bool
     ensures { result ≡ well_formed s.now }
 {
     let mut i = ascii_run(s);
     while i < s.len() {
-        let Some((_, c)) = character(Cur { i: i }, s) else {
+        let Some((_, c)) = character(Cur { i }, s) else {
             return false;
         };
         i = c.i;
