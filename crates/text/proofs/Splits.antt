@@ -4,14 +4,16 @@ use Rattle.std.proofs.lemmas.List.Sums.{sum_by-cons}
 use Prim.Native.Nat.{ℕ, zero, suc, ◌+◌, ◌-◌, ◌≤◌, ◌<◌, min}
 use mathlib.Core.Path.{◌≡◌, refl, ap, sym, ◌∙◌}
 use mathlib.Core.List.{List, [], ◌∷◌}
-use mathlib.Core.Bool.{Bool, true, false, cond}
+use mathlib.Core.Bool.{Bool, true, false, cond, ◌&&◌}
 use native.Mathlib.Omega.{arith}
 use lib.Dec.{eqb}
+use lib.Pointwise.{pointwise}
 use lib.ListN.{length, take, drop, get_or, drop_of_length-le}
 use lib.Seq.{drop-drop, length-take-le}
 use borrow.Author.Tests.{eq-eqb, ne_eqb}
 use Rattle.base.proofs.Parts.{drop_next}
-use Rattle.text.specs.Line.{before, cut, part_at}
+use Rattle.text.specs.Line.{before, cut, part_at, same}
+use Rattle.base.specs.Chars.{spelled}
 
 -- ---- the first part, and the others
 before_first : (b : ℕ) (ws : List (List ℕ)) → get_or (before b ws) 0 [] ≡ b ∷ get_or ws 0 []
@@ -124,3 +126,11 @@ pub counted : (n k : ℕ) (s : List ℕ) → k ≡ min n (length s) → (k ≤ l
 counted n k s e =
     let h : k ≤ length s = omega arith in
     (h, sym (length-take-le k s h), e)
+
+-- ---- the same bytes
+pub same_is : (s t : List ℕ) → pointwise eqb s t ≡ same s t
+unfolding spelled
+same_is [] [] = refl
+same_is [] (b ∷ t) = refl
+same_is (a ∷ s) [] = refl
+same_is (a ∷ s) (b ∷ t) = ap (λ (x : Bool). eqb a b && x) (same_is s t)

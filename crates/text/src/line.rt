@@ -70,10 +70,11 @@ pub fn fields(line: &[u8]) -> usize
 }
 
 // Are these the same bytes?
+#[tactic(auto, using(crate::proofs::Splits::same_is))]
 pub fn is(a: &[u8], b: &[u8]) -> bool
     ensures { result ≡ same a.now b.now }
 {
-    base::spells(a, b, false)
+    a == b
 }
 
 // So many bytes, or all where there are fewer.
