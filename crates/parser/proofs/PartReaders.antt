@@ -17,7 +17,7 @@ use Rattle.base.proofs.Parts.{drop_next}
 use Rattle.parser_spec.specs.DecimalNumbers.{digit_run, Run, number_of}
 use Rattle.parser_spec.specs.Parts.{Part, then, at_end, here, any_byte, one, byte, numeral, after_byte}
 use Rattle.parser_spec.specs.Characters.{utf8, letter, first_of}
-use Rattle.parser_spec.proofs.Held.{nothing, that, no_some}
+use Rattle.parser_spec.proofs.Held.{nothing, that}
 use Rattle.parser_spec.proofs.Behind.{Leaves, byte_leaves, numeral_leaves, digits_leaves, in_leaves, number_leaves, count_leaves}
 use Rattle.parser_spec.proofs.Characters.{letter_leaves, first_leaves, first_read, first_past}
 use Rattle.parser_spec.proofs.Written.{step, stop, after_read, after_absent, one_read}
@@ -47,11 +47,11 @@ module _ {A : Type 0} (s : List ℕ) (i : ℕ) where
   pub none_read : (x : Option (A × List ℕ)) (r : Option (A × Cur)) → r ≡ placed i s x → r ≡ None → x ≡ None
   unfolding placed
   none_read None r e g = refl
-  none_read (Some p) r e g = no_some (sym g ∙ e)
+  none_read (Some p) r e g = cc
 
   pub some_read : {x : Option (A × List ℕ)} (r : Option (A × Cur)) (v : A) (c : Cur) → r ≡ placed i s x → r ≡ Some (v, c) → Leaves (drop i s) x → Reads s i x v c
   unfolding placed
-  some_read r v c e g nothing = no_some (sym e ∙ g)
+  some_read r v c e g nothing = cc
   some_read r v c e g (that {v = u} {r = l} b) =
       let w : ◌≡◌ {A = A × Cur} (u, record { i = end_from i s - length l }) (v, c) = cc in
       let p : u ≡ v = ap (λ (z : A × Cur). z.0) w in

@@ -1,5 +1,5 @@
 -- What the readers answer: the value of a part of the text `s`, and a cursor at the place behind it. The cursor may stand anywhere, also behind the text.
-use Rattle.std.specs.Prelude.{ℕ, ◌-◌, max, List, length, drop, Option, None, Some}
+use Rattle.std.specs.Prelude.{ℕ, ◌-◌, max, List, length, drop, Option, None, Some, option_map}
 use Rattle.parser_spec.specs.Parts.{Part}
 use Rattle.parser.specs.declared.Cur.{Cur}
 
@@ -15,8 +15,7 @@ module _ {A : Type 0} where
 
   -- the cursor alone
   unfoldable pub place_of : Option (A × Cur) → Option Cur
-  place_of None = None
-  place_of (Some x) = Some x.1
+  place_of = option_map (λ x. x.1)
 
   -- the value of a part that is read from the place `i` on, and the place behind it
   abbrev pub read_at : ℕ → List ℕ → Part A → Option (A × Cur)
