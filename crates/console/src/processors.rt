@@ -1,5 +1,6 @@
 // The calls of the line protocol that ask the simulated processor (module 6). The answer stands in `memory`.
 mod built;
+mod image;
 mod lists;
 pub mod plc;
 mod whole_directory;

@@ -28,7 +28,9 @@ pub fn fill(call: Call<'_>, plc: &mut Plc) -> Answered {
         .find(|r| u64::from(r.number) == number && usize::from(r.length) == bytes.len())
         .ok_or(Refusal::NoSuchElement)?;
     let start = usize::from(place.start);
-    base::put_all(&mut plc.memory, start, bytes);
+    let mut image = plc.image();
+    base::put_all(&mut image, start, bytes);
+    plc.keep(&image);
     Ok(Answer::Done)
 }
 
@@ -46,7 +48,8 @@ pub fn hash(memory: &mut [u8], plc: &Plc) -> Answered {
     // The files lie end to end from 0 on.
     if let Some(last) = files(plc)?.last() {
         let end = usize::from(last.start).saturating_add(usize::from(last.length));
-        let h = fnv(&plc.memory[..end.min(65535)]);
+        let image = plc.image();
+        let h = fnv(&image[..end.min(image.len())]);
         let left = plc.slc.log_left;
         let _ = write!(text, " {h:016X} {left}");
     }

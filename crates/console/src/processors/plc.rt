@@ -13,6 +13,8 @@ pub struct Plc {
     pub table: [FileRecord; 256],
     pub memory: [u8; 65535],
     pub log: [u8; LOG],
+    // what stands behind the numbers where the processor is seen as bytes (image)
+    pub spare: [u8; 30],
 }
 
 const NO_FILE: FileRecord = FileRecord {
@@ -36,6 +38,7 @@ impl Plc {
             table: [NO_FILE; 256],
             memory: [0; 65535],
             log: [0; LOG],
+            spare: [0; 30],
         }
     }
 
@@ -64,12 +67,6 @@ impl Plc {
     // The records in use, as far as the table goes.
     pub fn files(&self) -> &[FileRecord] {
         &self.table[..self.slc.files.min(256)]
-    }
-
-    // The bytes of a file, as far as the memory goes.
-    pub fn data(&self, r: FileRecord) -> &[u8] {
-        let rest = &self.memory[usize::from(r.start).min(65535)..];
-        &rest[..usize::from(r.length).min(rest.len())]
     }
 
     // The type's text, as far as there is room for it.

@@ -7,14 +7,22 @@ use std::fmt::Write;
 
 pub fn shown(files: &[FileRecord], plc: &Plc, text: &mut Text<'_>) -> fmt::Result {
     let n = files.len();
+    let image = plc.image();
     write!(text, " {n}")?;
     for r in files {
         let number = r.number;
-        let code = r.code;
-        write!(text, " {number}:{code:02X}:")?;
-        text.byte_string(plc.data(*r));
+        write!(text, " {number}:")?;
+        text.byte_string(&[r.code]);
+        write!(text, ":")?;
+        text.byte_string(file(*r, &image));
     }
     entries(plc, text)
+}
+
+// The bytes of a file, as far as there are any.
+fn file(r: FileRecord, image: &[u8]) -> &[u8] {
+    let rest = &image[usize::from(r.start).min(image.len())..];
+    &rest[..usize::from(r.length).min(rest.len())]
 }
 
 // The entries that are left, each a length word and its bytes.
