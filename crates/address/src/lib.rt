@@ -2,47 +2,45 @@
 #![tactic(auto)]
 
 ghost use Rattle.std.specs.Prelude.{◌≡◌};
+ghost use Rattle.address_spec.specs.Spelling.{address_of};
 ghost use Rattle.address_readings.specs.Readings.{address_in};
 ghost use Rattle.address_readings.specs.Places.{retired_by};
 
 pub use address_readings::Reading;
-use address_spec::Found;
-pub use address_spec::{Address, Maybe, Parsed};
+pub use address_spec::Address;
+use base::Refusal;
 use file_type::FileType;
 
 // Is an address that was read of this tag one of a timer or counter with another separator than a full stop or a slash?
-fn is_retired(tag: &[u8], t: FileType, sub: Maybe) -> bool
+#[tactic(auto, unfolding(address_readings::specs::Places::retired_by))]
+fn is_retired(tag: &[u8], t: FileType, sub: Option<u16>) -> bool
     ensures { result ≡ retired_by tag.now t sub }
 {
-    if !address_readings::timed(t) {
-        return false;
-    }
     let end = address_readings::name_start(tag, sub);
-    !address_readings::plain_before(tag, end)
+    address_readings::timed(t) && !address_readings::plain_before(tag, end)
 }
 
-// The address that a tag spells, read as a new entry or as one of a stored list. Refused with 1 and 2, a new entry then with 39.
-pub fn parse_tag(tag: &[u8], reading: Reading) -> Parsed
+// The address that a tag of a stored list spells.
+#[tactic(auto, unfolding(address_spec::specs::Spelling::address_of))]
+fn stored(tag: &[u8]) -> Result<Address, Refusal>
+    ensures { result ≡ address_of tag.now }
+{
+    if 255 < tag.len() || !parser_characters::is_well_formed(tag) {
+        return Err(Refusal::MalformedTag);
+    }
+    address_forms::parse_form(tag).ok_or(Refusal::NotAnAddress)
+}
+
+// The address that a tag spells, read as a new entry or as one of a stored list.
+#[tactic(auto, using(address_readings::proofs::ReadingAnswers::refused_in))]
+pub fn parse_tag(tag: &[u8], reading: Reading) -> Result<Address, Refusal>
     ensures { result ≡ address_in reading tag.now }
 {
-    if 255 < tag.len() {
-        return Parsed::Refused(1);
-    }
-    if !parser_characters::is_well_formed(tag) {
-        return Parsed::Refused(1);
-    }
-    let Found::Is(a) = address_forms::parse_form(tag) else {
-        return Parsed::Refused(2);
-    };
+    let a = stored(tag)?;
     match reading {
-        Reading::Stored => Parsed::Is(a),
-        Reading::New => {
-            let t = a.file_type;
-            let sub = a.sub_element;
-            if is_retired(tag, t, sub) {
-                return Parsed::Refused(39);
-            }
-            Parsed::Is(a)
+        Reading::New if is_retired(tag, a.file_type, a.sub_element) => {
+            Err(Refusal::RetiredSeparator)
         }
+        _ => Ok(a),
     }
 }

@@ -6,9 +6,8 @@ ghost use Rattle.base.specs.Put.{Wrote};
 ghost use Rattle.address_readings.specs.Places.{separator_start, replaced, dotted_by};
 ghost use Rattle.address_dotted.specs.DottedAnswers.{dotting, Dots};
 
-use address::{Parsed, Reading};
-pub use address_readings::Dotted;
-use address_spec::Maybe;
+use address::Reading;
+use base::Refusal;
 use file_type::FileType;
 
 // Where the separator begins that ends at this place: all bytes above 127 before it, or one byte.
@@ -16,18 +15,11 @@ fn separator_start(tag: &[u8], end: usize) -> usize
     requires { end ≤ length tag.now }
     ensures { result ≡ separator_start tag.now end }
 {
-    if end == 0 {
-        return 0;
+    let mut start = end;
+    while 0 < start && 128 <= tag[start - 1] {
+        start -= 1;
     }
-    let last = end - 1;
-    let mut e = end;
-    while 0 < e {
-        if tag[e - 1] < 128 {
-            return base::least(e, last);
-        }
-        e -= 1;
-    }
-    0
+    start.min(end.saturating_sub(1))
 }
 
 // The tag with a full stop for the separator that ends at this place.
@@ -42,7 +34,7 @@ fn put_replaced(tag: &[u8], end: usize, out: &mut [u8]) -> usize
 }
 
 // The text of an address of this type and name.
-fn put_dotted(tag: &[u8], t: FileType, sub: Maybe, out: &mut [u8]) -> usize
+fn put_dotted(tag: &[u8], t: FileType, sub: Option<u16>, out: &mut [u8]) -> usize
     requires { length (dotted_by tag.now t sub) ≤ length out.old }
     ensures { Wrote out.old 0 (dotted_by tag.now t sub) result out.new }
 {
@@ -53,20 +45,14 @@ fn put_dotted(tag: &[u8], t: FileType, sub: Maybe, out: &mut [u8]) -> usize
     put_replaced(tag, end, out)
 }
 
-// The text of the address that a tag of a stored list spells. Refused with 1, 2 and 6.
-pub fn dotted(tag: &[u8], out: &mut [u8]) -> Dotted
+// The text of the address that a tag of a stored list spells, and how many bytes it has.
+#[tactic(auto, unfolding(crate::specs::DottedAnswers::asked, address_readings::specs::Readings::address_in))]
+pub fn dotted(tag: &[u8], out: &mut [u8]) -> Result<usize, Refusal>
     ensures { Dots (dotting tag.now out.old) out.old result out.new }
 {
-    let parsed = address::parse_tag(tag, Reading::Stored);
-    match parsed {
-        Parsed::Refused(n) => Dotted::Refused(n),
-        Parsed::Is(x) => {
-            if out.len() < 255 {
-                return Dotted::Refused(6);
-            }
-            let t = x.file_type;
-            let sub = x.sub_element;
-            Dotted::Written(put_dotted(tag, t, sub, out))
-        }
+    let x = address::parse_tag(tag, Reading::Stored)?;
+    if out.len() < 255 {
+        return Err(Refusal::ShortOutput);
     }
+    Ok(put_dotted(tag, x.file_type, x.sub_element, out))
 }

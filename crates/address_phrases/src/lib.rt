@@ -2,174 +2,141 @@
 #![tactic(auto)]
 
 ghost use Rattle.std.specs.Prelude.{◌≡◌, [], ◌∷◌, drop};
-ghost use Rattle.std.proofs.Math.Option.{some};
 ghost use Rattle.file_type.specs.declared.FileType.TheVariants.{C, T, L, F, B, N};
 ghost use Rattle.parser_spec.specs.Characters.{utf8, first_of};
 ghost use Rattle.parser_spec.specs.Parts.{ended};
-ghost use Rattle.parser.specs.CursorAnswers.{read_at, eaten_of, read_word_of};
-ghost use Rattle.address_spec.specs.ReaderAnswers.{typed_of, slot_of, bit_of, tail_of, found_of};
-ghost use Rattle.address_spec.specs.Spelling.{present as spelling_present, file_before, optional_bit, bit_count, ignored, optional_position, slots, slot as spelling_slot, st_or_a};
+ghost use Rattle.parser.specs.CursorAnswers.{read_at, place_at};
+ghost use Rattle.address_spec.specs.Spelling.{file_before, optional_bit, bit_count, ignored, optional_position, slots, slot as spelling_slot, st_or_a};
 
-use address_spec::{Address, Bit, Found, Maybe, Slot, Tail, Typed};
+use address_spec::Address;
 use file_type::FileType;
-use parser::{Cur, Eaten, ReadNumber, ReadWord};
+use parser::Cur;
 
-pub fn ct_letter(c: Cur, s: &[u8]) -> Typed
-    ensures { result ≡ typed_of (read_at c.i s.now (first_of utf8 (("C", C) ∷ ("T", T) ∷ []))) }
+#[tactic(auto, using(crate::proofs::FormReaders::phrases))]
+pub fn ct_letter(c: Cur, s: &[u8]) -> Option<(FileType, Cur)>
+    ensures { result ≡ read_at c.i s.now (first_of utf8 (("C", C) ∷ ("T", T) ∷ [])) }
 {
-    if let Eaten::At(d) = parser_characters::letter(c, s, b'C') {
-        return Typed::Is(FileType::C, d);
+    if let Some(d) = parser_characters::letter(c, s, b'C') {
+        return Some((FileType::C, d));
     }
-    if let Eaten::At(d) = parser_characters::letter(c, s, b'T') {
-        return Typed::Is(FileType::T, d);
-    }
-    Typed::No
+    let d = parser_characters::letter(c, s, b'T')?;
+    Some((FileType::T, d))
 }
 
-pub fn lfbn_letter(c: Cur, s: &[u8]) -> Typed
-    ensures { result ≡ typed_of (read_at c.i s.now (first_of utf8 (("L", L) ∷ ("F", F) ∷ ("B", B) ∷ ("N", N) ∷ []))) }
+#[tactic(auto, using(crate::proofs::FormReaders::phrases))]
+pub fn lfbn_letter(c: Cur, s: &[u8]) -> Option<(FileType, Cur)>
+    ensures { result ≡ read_at c.i s.now (first_of utf8 (("L", L) ∷ ("F", F) ∷ ("B", B) ∷ ("N", N) ∷ [])) }
 {
-    if let Eaten::At(d) = parser_characters::letter(c, s, b'L') {
-        return Typed::Is(FileType::L, d);
+    if let Some(d) = parser_characters::letter(c, s, b'L') {
+        return Some((FileType::L, d));
     }
-    if let Eaten::At(d) = parser_characters::letter(c, s, b'F') {
-        return Typed::Is(FileType::F, d);
+    if let Some(d) = parser_characters::letter(c, s, b'F') {
+        return Some((FileType::F, d));
     }
-    if let Eaten::At(d) = parser_characters::letter(c, s, b'B') {
-        return Typed::Is(FileType::B, d);
+    if let Some(d) = parser_characters::letter(c, s, b'B') {
+        return Some((FileType::B, d));
     }
-    if let Eaten::At(d) = parser_characters::letter(c, s, b'N') {
-        return Typed::Is(FileType::N, d);
-    }
-    Typed::No
+    let d = parser_characters::letter(c, s, b'N')?;
+    Some((FileType::N, d))
 }
 
 // The type and file of I and O.
-fn io_letter(c: Cur, s: &[u8]) -> Slot
-    ensures { result ≡ slot_of (read_at c.i s.now (first_of utf8 slots)) }
+#[tactic(auto, using(crate::proofs::FormReaders::phrases))]
+fn io_letter(c: Cur, s: &[u8]) -> Option<((FileType, u16), Cur)>
+    ensures { result ≡ read_at c.i s.now (first_of utf8 slots) }
 {
-    if let Eaten::At(d) = parser_characters::letter(c, s, b'I') {
-        return Slot::Is(FileType::I, 1, d);
+    if let Some(d) = parser_characters::letter(c, s, b'I') {
+        return Some(((FileType::I, 1), d));
     }
-    if let Eaten::At(d) = parser_characters::letter(c, s, b'O') {
-        return Slot::Is(FileType::O, 0, d);
-    }
-    Slot::No
+    let d = parser_characters::letter(c, s, b'O')?;
+    Some(((FileType::O, 0), d))
 }
 
 // The letters ST, or A.
-pub fn st_or_a(c: Cur, s: &[u8], st: bool) -> Typed
-    ensures { result ≡ typed_of (read_at c.i s.now (st_or_a utf8 st)) }
+#[tactic(auto, using(crate::proofs::FormReaders::phrases), unfolding(address_spec::specs::Spelling::st_or_a))]
+pub fn st_or_a(c: Cur, s: &[u8], st: bool) -> Option<(FileType, Cur)>
+    ensures { result ≡ read_at c.i s.now (st_or_a utf8 st) }
 {
-    if !st {
-        let Eaten::At(d) = parser_characters::letter(c, s, b'A') else {
-            return Typed::No;
-        };
-        return Typed::Is(FileType::A, d);
+    if st {
+        let d = parser_characters::letter(c, s, b'S')?;
+        let e = parser_characters::letter(d, s, b'T')?;
+        Some((FileType::ST, e))
+    } else {
+        let d = parser_characters::letter(c, s, b'A')?;
+        Some((FileType::A, d))
     }
-    let Eaten::At(d) = parser_characters::letter(c, s, b'S') else {
-        return Typed::No;
-    };
-    let Eaten::At(e) = parser_characters::letter(d, s, b'T') else {
-        return Typed::No;
-    };
-    Typed::Is(FileType::ST, e)
 }
 
 // A file and the sign behind it.
-pub fn file_then(c: Cur, s: &[u8], sign: u8) -> ReadWord
-    ensures { result ≡ read_word_of (read_at c.i s.now (file_before sign)) }
+#[tactic(auto, using(crate::proofs::FormReaders::phrases), unfolding(address_spec::specs::Spelling::file_before))]
+pub fn file_then(c: Cur, s: &[u8], sign: u8) -> Option<(u16, Cur)>
+    ensures { result ≡ read_at c.i s.now (file_before sign) }
 {
-    let ReadWord::Got(f, d) = c.digits_in(s, 3, 1, 255) else {
-        return ReadWord::No;
-    };
-    let Eaten::At(e) = d.eat(s, sign) else {
-        return ReadWord::No;
-    };
-    ReadWord::Got(f, e)
+    let (f, d) = c.digits_in(s, 3, 1, 255)?;
+    let e = d.eat(s, sign)?;
+    Some((f, e))
 }
 
 // An optional `/` and bit.
-fn optional_bit(c: Cur, s: &[u8]) -> Bit
-    ensures { result ≡ bit_of (read_at c.i s.now optional_bit) }
+#[tactic(auto, using(crate::proofs::FormReaders::phrases), unfolding(address_spec::specs::Spelling::optional_bit))]
+fn optional_bit(c: Cur, s: &[u8]) -> Option<(Option<u16>, Cur)>
+    ensures { result ≡ read_at c.i s.now optional_bit }
 {
-    let Eaten::At(d) = c.eat(s, b'/') else {
-        return Bit::Got(Maybe::Missing, c);
+    let Some(d) = c.eat(s, b'/') else {
+        return Some((None, c));
     };
-    let ReadWord::Got(n, e) = d.digits_in(s, 2, 0, 15) else {
-        return Bit::No;
-    };
-    Bit::Got(Maybe::Is(n), e)
+    let (n, e) = d.digits_in(s, 2, 0, 15)?;
+    Some((Some(n), e))
 }
 
 // An optional bit, and a count.
-pub fn bit_count(c: Cur, s: &[u8]) -> Tail
-    ensures { result ≡ tail_of (read_at c.i s.now bit_count) }
+#[tactic(auto, using(crate::proofs::FormReaders::phrases), unfolding(address_spec::specs::Spelling::bit_count))]
+pub fn bit_count(c: Cur, s: &[u8]) -> Option<((Option<u16>, u64), Cur)>
+    ensures { result ≡ read_at c.i s.now bit_count }
 {
-    let Bit::Got(b, d) = optional_bit(c, s) else {
-        return Tail::No;
-    };
-    let ReadNumber::Got(n, e) = d.count(s, false) else {
-        return Tail::No;
-    };
-    Tail::Got(b, n, e)
+    let (b, d) = optional_bit(c, s)?;
+    let (n, e) = d.count(s, false)?;
+    Some(((b, n), e))
 }
 
 // An optional number of 1 to 3 digits, ignored.
-fn ignore_number(c: Cur, s: &[u8]) -> Eaten
-    ensures { result ≡ eaten_of (read_at c.i s.now ignored) }
+#[tactic(auto, unfolding(address_spec::specs::Spelling::ignored, parser_spec::specs::Parts::then, parser::specs::CursorAnswers::placed, parser::specs::CursorAnswers::place_of))]
+fn ignore_number(c: Cur, s: &[u8]) -> Option<Cur>
+    ensures { result ≡ place_at c.i s.now ignored }
 {
-    let i = c.i;
-    if parser::digit_run(s, i) == 0 {
-        return Eaten::At(c);
+    if parser::digit_run(s, c.i) == 0 {
+        return Some(c);
     }
-    let ReadNumber::Got(_, d) = c.digits(s, 3) else {
-        return Eaten::No;
-    };
-    Eaten::At(d)
+    let (_, d) = c.digits(s, 3)?;
+    Some(d)
 }
 
 // I or O, an optional number, `:`.
-pub fn slot(c: Cur, s: &[u8]) -> Slot
-    ensures { result ≡ slot_of (read_at c.i s.now (spelling_slot utf8)) }
+#[tactic(auto, using(crate::proofs::FormReaders::phrases), unfolding(address_spec::specs::Spelling::slot))]
+pub fn slot(c: Cur, s: &[u8]) -> Option<((FileType, u16), Cur)>
+    ensures { result ≡ read_at c.i s.now (spelling_slot utf8) }
 {
-    let Slot::Is(t, f, d) = io_letter(c, s) else {
-        return Slot::No;
-    };
-    let Eaten::At(e) = ignore_number(d, s) else {
-        return Slot::No;
-    };
-    let Eaten::At(g) = e.eat(s, b':') else {
-        return Slot::No;
-    };
-    Slot::Is(t, f, g)
+    let (slot, d) = io_letter(c, s)?;
+    let e = ignore_number(d, s)?;
+    let g = e.eat(s, b':')?;
+    Some((slot, g))
 }
 
 // An optional `.` and position, 0 where it is absent.
-pub fn optional_position(c: Cur, s: &[u8]) -> ReadWord
-    ensures { result ≡ read_word_of (read_at c.i s.now optional_position) }
+#[tactic(auto, using(crate::proofs::FormReaders::phrases), unfolding(address_spec::specs::Spelling::optional_position))]
+pub fn optional_position(c: Cur, s: &[u8]) -> Option<(u16, Cur)>
+    ensures { result ≡ read_at c.i s.now optional_position }
 {
-    let Eaten::At(d) = c.eat(s, b'.') else {
-        return ReadWord::Got(0, c);
-    };
-    d.digits_in(s, 3, 0, 999)
-}
-
-pub fn present(m: Maybe) -> bool
-    ensures { result ≡ spelling_present m }
-{
-    match m {
-        Maybe::Missing => false,
-        Maybe::Is(_) => true,
+    match c.eat(s, b'.') {
+        Some(d) => d.digits_in(s, 3, 0, 999),
+        None => Some((0, c)),
     }
 }
 
 // The address, if nothing is left of the tag.
-pub fn found(c: Cur, tag: &[u8], a: Address) -> Found
-    ensures { result ≡ found_of (ended (some (a, drop c.i tag.now))) }
+#[tactic(auto, unfolding(parser_spec::specs::Parts::ended))]
+pub fn found(c: Cur, tag: &[u8], a: Address) -> Option<Address>
+    ensures { result ≡ ended (Some (a, drop c.i tag.now)) }
 {
-    if !c.done(tag) {
-        return Found::No;
-    }
-    Found::Is(a)
+    if c.done(tag) { Some(a) } else { None }
 }

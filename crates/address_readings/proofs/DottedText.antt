@@ -1,19 +1,18 @@
 -- The text with a full stop is accepted as a new entry and names the same address.
+use Rattle.std.specs.Prelude.{Option, None, Some, Ok, Err}
 use Prim.Native.Nat.{ℕ, ◌+◌, ◌-◌, ◌≤◌}
 use mathlib.Core.Path.{◌≡◌, refl, ap, sym, subst, ◌∙◌}
 use mathlib.Core.List.{List, [], ◌∷◌, ◌++◌}
-use mathlib.Core.Option.{Option, none, some}
 use mathlib.Core.Bool.{Bool, true, false, ◌&&◌, cond}
 use native.Mathlib.Omega.{arith}
 use borrow.Author.Tests.{leb-true, le-leb}
 use lib.Dec.{leb}
 use lib.ListN.{length, take, drop, length-append}
 use lib.Seq.{take_at}
+use Rattle.base.specs.declared.refusal.Refusal.TheVariants.{MalformedTag}
 use Rattle.parser_spec.specs.Characters.{well_formed, utf8}
 use Rattle.address_spec.specs.Spelling.{address, separates, ct, or_try, form_of, accepted, address_of}
-use Rattle.address_spec.specs.declared.Maybe.TheVariants.{Missing, Is}
 use Rattle.address_spec.specs.declared.Address.{Address}
-use Rattle.address_spec.specs.declared.Parsed.TheVariants as parsed
 use Rattle.address_spec.proofs.Ranges.{refused}
 use Rattle.address_spec.proofs.Unchanged.{small_formed}
 use Rattle.address_readings.specs.declared.Reading.TheVariants.{New}
@@ -22,27 +21,27 @@ use Rattle.address_readings.proofs.CtLetters.{others, others_untimed}
 use Rattle.address_readings.proofs.Readings.{by_test_lem, no_difference}
 use Rattle.address_readings.proofs.InParts.{Timer, a_timer, count, front, name, text, up_to, separator_there, separator_bytes, read_again, low_again}
 
-short : (tag : List ℕ) (x : Address) → address_of tag ≡ parsed.Is x → length tag ≤ 255
+short : (tag : List ℕ) (x : Address) → address_of tag ≡ Ok x → length tag ≤ 255
 unfolding address_of
 short tag x = go (leb (length tag) 255) refl (well_formed tag)
   where
-    go : (t : Bool) → leb (length tag) 255 ≡ t → (b : Bool) → cond (t && b) (accepted (form_of utf8 separates tag)) (parsed.Refused 1) ≡ parsed.Is x → length tag ≤ 255
+    go : (t : Bool) → leb (length tag) 255 ≡ t → (b : Bool) → cond (t && b) (accepted (form_of utf8 separates tag)) (Err MalformedTag) ≡ Ok x → length tag ≤ 255
     go true e b q = leb-true (length tag) 255 e
     go false e b q = refused q
 
 -- ---- an accepted address of a timer or counter has their form
-pub of_timer_lem : (tag : List ℕ) (x : Address) → address_of tag ≡ parsed.Is x → timed x.file_type ≡ true → ct utf8 separates tag ≡ some x
+pub of_timer_lem : (tag : List ℕ) (x : Address) → address_of tag ≡ Ok x → timed x.file_type ≡ true → ct utf8 separates tag ≡ Some x
 unfolding address_of form_of or_try
 of_timer_lem tag x e h = go (leb (length tag) 255 && well_formed tag) (ct utf8 separates tag) refl (others tag) refl e
   where
-    go : (t : Bool) (y : Option Address) → ct utf8 separates tag ≡ y → (z : Option Address) → others tag ≡ z → cond t (accepted (or_try y z)) (parsed.Refused 1) ≡ parsed.Is x → ct utf8 separates tag ≡ some x
+    go : (t : Bool) (y : Option Address) → ct utf8 separates tag ≡ y → (z : Option Address) → others tag ≡ z → cond t (accepted (or_try y z)) (Err MalformedTag) ≡ Ok x → ct utf8 separates tag ≡ Some x
     go false y f z g q = refused q
-    go true none f none g q = refused q
-    go true none f (some w) g q =
+    go true None f None g q = refused q
+    go true None f (Some w) g q =
         let v : w ≡ x = cc in
-        let n : timed x.file_type ≡ false = others_untimed tag x (g ∙ ap some v) in
+        let n : timed x.file_type ≡ false = others_untimed tag x (g ∙ ap Some v) in
         absurd (let k : true ≡ false = sym h ∙ n in let m : ◌≡◌ {A = ℕ} 0 1 = cc in omega arith)
-    go true (some w) f z g q = let v : w ≡ x = cc in f ∙ ap some v
+    go true (Some w) f z g q = let v : w ≡ x = cc in f ∙ ap Some v
 
 -- ---- its text with a full stop
 module _ {tag : List ℕ} {x : Address} (t : Timer tag x []) where
@@ -66,27 +65,27 @@ module _ {tag : List ℕ} {x : Address} (t : Timer tag x []) where
       omega (arith, length-append (front t) (46 ∷ name t), whole_length, b.some_byte)
 
   -- accepted as a new entry
-  dotted_taken : length tag ≤ 255 → address_in New (front t ++ (46 ∷ name t)) ≡ parsed.Is (keeping (length (front t ++ (46 ∷ name t))) x)
+  dotted_taken : length tag ≤ 255 → address_in New (front t ++ (46 ∷ name t)) ≡ Ok (keeping (length (front t ++ (46 ∷ name t))) x)
   unfolding by_test form_of or_try
   dotted_taken h =
       let d : List ℕ = front t ++ (46 ∷ name t) in
       let l : length d ≤ 255 = omega (arith, dotted_shorter) in
-      let a : x ≡ address t.type t.file t.value.0 Missing (Is t.value.1) true 1 (length tag) = t.is in
+      let a : x ≡ address t.type t.file t.value.0 None (Some t.value.1) true 1 (length tag) = t.is in
       by_test_lem d ∙ rw (le-leb (length d) 255 l, small_formed d (low_again t), read_again t separates refl, read_again t plain refl)
-      (ap (λ (y : Address). parsed.Is (keeping (length d) y)) (sym a))
+      (ap (λ (y : Address). Ok (keeping (length d) y)) (sym a))
 
 pub dotted_names : DottedNames
 unfolding dotted
 dotted_names tag x e = go (timed x.file_type) refl
   where
-    go : (b : Bool) → timed x.file_type ≡ b → address_in New (cond b (dotted_timer tag) tag) ≡ parsed.Is (cond b (keeping (length (cond b (dotted_timer tag) tag)) x) x)
+    go : (b : Bool) → timed x.file_type ≡ b → address_in New (cond b (dotted_timer tag) tag) ≡ Ok (cond b (keeping (length (cond b (dotted_timer tag) tag)) x) x)
     go true h =
         let t = a_timer tag x (of_timer_lem tag x e h) in
-        subst (λ (d : List ℕ). address_in New d ≡ parsed.Is (keeping (length d) x)) (sym (dotted_is t)) (dotted_taken t (short tag x e))
+        subst (λ (d : List ℕ). address_in New d ≡ Ok (keeping (length d) x)) (sym (dotted_is t)) (dotted_taken t (short tag x e))
     go false h = (no_difference tag).0 (ap of_timer e ∙ h) New ∙ e
 
 -- it has at most 255 bytes
-pub dotted_fits : (tag : List ℕ) (x : Address) → address_of tag ≡ parsed.Is x → length (dotted x tag) ≤ 255
+pub dotted_fits : (tag : List ℕ) (x : Address) → address_of tag ≡ Ok x → length (dotted x tag) ≤ 255
 unfolding dotted
 dotted_fits tag x e = go (timed x.file_type) refl
   where

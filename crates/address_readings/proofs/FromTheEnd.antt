@@ -1,4 +1,5 @@
 -- The separator found from the tag's end: what stands before the name, and where that begins.
+use Rattle.std.specs.Prelude.{Result, Ok}
 use Prim.Native.Nat.{ℕ, zero, suc, ◌+◌, ◌-◌, ◌≤◌, ◌<◌}
 use mathlib.Core.Path.{◌≡◌, refl, ap, ap₂, sym, subst, ◌∙◌}
 use mathlib.Core.List.{List, [], ◌∷◌, ◌++◌, append_assoc}
@@ -9,12 +10,11 @@ use borrow.Author.Tests.{le-leb, lt-ltb, ltb-true}
 use lib.Dec.{ltb}
 use lib.ListN.{length, take, drop, get_or, length-append, get_or-append}
 use lib.Seq.{take_at, drop_at, get_or-append-add}
+use Rattle.base.specs.declared.refusal.Refusal.{Refusal}
 use Rattle.base.proofs.EveryPlace.{both}
 use Rattle.parser_spec.proofs.CharacterBytes.{Sort, small, high, all_far, far_at}
 use Rattle.address_spec.specs.Spelling.{ascii, address_of}
 use Rattle.address_spec.specs.declared.Address.{Address}
-use Rattle.address_spec.specs.declared.Parsed.{Parsed}
-use Rattle.address_spec.specs.declared.Parsed.TheVariants as parsed
 use Rattle.address_readings.specs.Readings.{plain, plainly, separator, timed, of_timer, retired, dotted_timer, dotted}
 use Rattle.address_readings.specs.Places.{letters_of, name_length, plain_before, retired_by, far_start, separator_start, replaced, dotted_by}
 use Rattle.address_readings.proofs.Separators.{behind_slash}
@@ -107,10 +107,10 @@ module _ {tag : List ℕ} {x : Address} (t : Timer tag x []) where
       ∙ sym (dotted_is t)
 
 -- ---- an accepted tag
-module _ (tag : List ℕ) (x : Address) (e : address_of tag ≡ parsed.Is x) where
+module _ (tag : List ℕ) (x : Address) (e : address_of tag ≡ Ok x) where
   pub retired_by_lem : retired_by tag x.file_type x.sub_element ≡ retired tag
   unfolding retired_by retired
-  retired_by_lem = go (timed x.file_type) refl ∙ ap (λ (y : Parsed). of_timer y && not (plainly (separator tag))) (sym e)
+  retired_by_lem = go (timed x.file_type) refl ∙ ap (λ (y : Result Address Refusal). of_timer y && not (plainly (separator tag))) (sym e)
     where
       go : (b : Bool) → timed x.file_type ≡ b → (b && not (plain_before tag (length tag - name_length x.sub_element))) ≡ (b && not (plainly (separator tag)))
       go false h = refl

@@ -1,9 +1,9 @@
 -- An accepted tag of a timer or counter in its parts: letter, file and `:`, digits, separator, name; and the same parts with a full stop, read again.
+use Rattle.std.specs.Prelude.{Option, Some, None}
 use Prim.Native.Nat.{ℕ, zero, suc, min, ◌≤◌, ◌<◌}
 use Prim.Native.Char.{code}
 use mathlib.Core.Path.{◌≡◌, refl, ap, sym, subst, ◌∙◌}
 use mathlib.Core.List.{List, [], ◌∷◌, ◌++◌, append_assoc}
-use mathlib.Core.Option.{Option, some}
 use mathlib.Core.Bool.{Bool, true, false, ◌&&◌, cond}
 use native.Mathlib.Nat.{not-suc-le-zero}
 use native.Mathlib.Omega.{arith}
@@ -23,7 +23,6 @@ use Rattle.parser_spec.proofs.CharacterBytes.{InBytes, Sort, small, high, in_byt
 use Rattle.parser_spec.proofs.Held.{Holds, nothing, that, and_next, held_of, itself, whole_some, here_held, one_held, byte_held, digits_held}
 use Rattle.parser_spec.proofs.Written.{passed, step, whole_read, one_read, byte_read, run_read, in_read}
 use Rattle.address_spec.specs.Spelling.{address, ascii, file_before, file_then, separates, name_in, ct_names, cut, cuts, element_name, ct}
-use Rattle.address_spec.specs.declared.Maybe.TheVariants.{Missing, Is}
 use Rattle.address_spec.specs.declared.Address.{Address}
 use Rattle.address_readings.specs.Readings.{stands, element_digits, past_element, up_to_separator, separator}
 use Rattle.address_readings.proofs.Names.{small_upper, Name, name_held}
@@ -39,10 +38,10 @@ record Letter (s : List ℕ) (t : FileType) (r : List ℕ) : Type 0 where
   byte : ℕ
   text : s ≡ byte ∷ r
   low : byte < 128
-  again : (q : List ℕ) → ct_letter (byte ∷ q) ≡ some (t, q)
+  again : (q : List ℕ) → ct_letter (byte ∷ q) ≡ Some (t, q)
 
 -- a character below 128 is its byte
-as_byte : {s : List ℕ} {x : ℕ} {r : List ℕ} → character s ≡ some (x, r) → x < 128 → s ≡ x ∷ r
+as_byte : {s : List ℕ} {x : ℕ} {r : List ℕ} → character s ≡ Some (x, r) → x < 128 → s ≡ x ∷ r
 as_byte {s} {x} {r} e h = let b = held_of (in_bytes s) e in b.text ∙ ap (λ (l : List ℕ). l ++ r) (go b.sort)
   where
     go : {bytes : List ℕ} → Sort x bytes → bytes ≡ x ∷ []
@@ -102,7 +101,7 @@ record File (s : List ℕ) (f : ℕ) (q : List ℕ) : Type 0 where
   digits : List ℕ
   text : s ≡ digits ++ (58 ∷ q)
   low : ascii digits ≡ true
-  again : (z : List ℕ) → file_then ":" (digits ++ (58 ∷ z)) ≡ some (f, z)
+  again : (z : List ℕ) → file_then ":" (digits ++ (58 ∷ z)) ≡ Some (f, z)
 
 record Number (s : List ℕ) (n : ℕ) (r : List ℕ) : Type 0 where
   some_digit : 0 < digit_run s
@@ -137,15 +136,15 @@ a_file s = and_next (a_number s) λ n r h. and_next (byte_held 58 r) λ _ q g. t
           text = sym (take-append-drop (digit_run s) s) ∙ ap (λ (l : List ℕ). k ++ l) (sym h.rest ∙ g);
           low = d.low;
           again = λ z. step _ (in_read k (58 ∷ z) d.run (omega (arith, d.long, h.some_digit)) refl 3 (omega (arith, d.long, h.most)) 1 255 (omega (arith, v, h.least)) (omega (arith, v, h.highest)))
-              ∙ step _ (byte_read 58 z) ∙ ap (λ (m : ℕ). some (m, z)) v;
+              ∙ step _ (byte_read 58 z) ∙ ap (λ (m : ℕ). Some (m, z)) v;
         }
 
 -- ---- the element, the separator and the name
 pub record Cut (k : ℕ) (s : List ℕ) (v : ℕ × ℕ) (z : List ℕ) : Type 0 where
   pub value : ℕ
   pub rest : List ℕ
-  pub text : character (drop k s) ≡ some (value, rest)
-  pub name : name_in ct_names rest ≡ some (v.1, z)
+  pub text : character (drop k s) ≡ Some (value, rest)
+  pub name : name_in ct_names rest ≡ Some (v.1, z)
   pub number : v.0 ≡ number_of (take k s)
 
 a_cut : (k : ℕ) (s : List ℕ) → Holds (Cut k s) (cut character separates k s)
@@ -166,18 +165,18 @@ an_element (suc k) s = go (a_cut (suc k) s) (an_element k s)
 
 -- the same digits and name with a full stop between them, read by any test that lets it stand
 module _ (test : ℕ → Bool) (a : test 46 ≡ true) where
-  first_cut : (k : ℕ) (s : List ℕ) (v : (ℕ × ℕ) × List ℕ) → 0 < k → cut character test k s ≡ some v → cuts character test k s ≡ some v
+  first_cut : (k : ℕ) (s : List ℕ) (v : (ℕ × ℕ) × List ℕ) → 0 < k → cut character test k s ≡ Some v → cuts character test k s ≡ Some v
   unfolding cuts or_else
   first_cut zero s v h e = absurd (not-suc-le-zero h)
   first_cut (suc k) s v h e = rw e
 
-  module _ (d r : List ℕ) (n : ℕ) (f : name_in ct_names r ≡ some (n, [])) where
-    cut_again : cut character test (length d) (d ++ (46 ∷ r)) ≡ some ((number_of d, n), [])
+  module _ (d r : List ℕ) (n : ℕ) (f : name_in ct_names r ≡ Some (n, [])) where
+    cut_again : cut character test (length d) (d ++ (46 ∷ r)) ≡ Some ((number_of d, n), [])
     unfolding cut
     cut_again =
         rw (drop-append_seam d (46 ∷ r), take-append_seam d (46 ∷ r)) (step _ (one_read character test 46 (small_character 46 r (omega arith)) a) ∙ step _ f)
 
-    element_again : digit_run d ≡ length d → 0 < length d → length d ≤ 3 → element_name character test (d ++ (46 ∷ r)) ≡ some ((number_of d, n), [])
+    element_again : digit_run d ≡ length d → 0 < length d → length d ≤ 3 → element_name character test (d ++ (46 ∷ r)) ≡ Some ((number_of d, n), [])
     unfolding element_name digit_run
     element_again e h l =
         let k : min (digit_run (d ++ (46 ∷ r))) 3 ≡ length d = omega (arith, run_read d (46 ∷ r) e refl) in
@@ -199,9 +198,9 @@ pub record Timer (tag : List ℕ) (x : Address) (z : List ℕ) : Type 0 where
   number : File behind file element
   pub digits : Element (element_digits (min (digit_run element) 3) element) element value z
   range : leb value.0 255 ≡ true
-  pub is : x ≡ address type file value.0 Missing (Is value.1) true 1 (length tag)
+  pub is : x ≡ address type file value.0 None (Some value.1) true 1 (length tag)
 
-pub a_timer : (tag : List ℕ) (x : Address) → ct utf8 separates tag ≡ some x → Timer tag x []
+pub a_timer : (tag : List ℕ) (x : Address) → ct utf8 separates tag ≡ Some x → Timer tag x []
 unfolding ct element_name
 a_timer tag x e =
     held_of {P = Timer tag} (and_next (letter_is tag) λ t r l. and_next (a_file r) λ f q g. and_next (an_element (min (digit_run q) 3) q) λ v z d. and_next (here_held (leb v.0 255) z) λ _ w h.
@@ -232,17 +231,17 @@ module _ {tag : List ℕ} {x : Address} (t : Timer tag x []) where
       ∙ sym (seam (drop count t.element))
 
   -- what is read of it
-  letter_there : ct_letter tag ≡ some (t.type, t.behind)
+  letter_there : ct_letter tag ≡ Some (t.type, t.behind)
   letter_there = ap ct_letter t.letter.text ∙ t.letter.again t.behind
 
-  file_there : file_then ":" t.behind ≡ some (t.file, t.element)
+  file_there : file_then ":" t.behind ≡ Some (t.file, t.element)
   file_there = ap (file_then ":") t.number.text ∙ t.number.again t.element
 
-  pub up_to : up_to_separator tag ≡ some (tt, drop count t.element)
+  pub up_to : up_to_separator tag ≡ Some (tt, drop count t.element)
   unfolding up_to_separator past_element
   up_to = step _ letter_there ∙ step _ file_there
 
-  pub separator_there : separator tag ≡ some (t.digits.1.value, name)
+  pub separator_there : separator tag ≡ Some (t.digits.1.value, name)
   unfolding separator
   separator_there = step _ up_to ∙ t.digits.1.text
 
@@ -257,14 +256,14 @@ module _ {tag : List ℕ} {x : Address} (t : Timer tag x []) where
   counted = some_digits t.element count (omega (arith, digits_most (min (digit_run t.element) 3) t.element))
 
   pub read_again : (test : ℕ → Bool) → test 46 ≡ true
-      → ct utf8 test (front ++ (46 ∷ name)) ≡ some (address t.type t.file t.value.0 Missing (Is t.value.1) true 1 (length (front ++ (46 ∷ name))))
+      → ct utf8 test (front ++ (46 ∷ name)) ≡ Some (address t.type t.file t.value.0 None (Some t.value.1) true 1 (length (front ++ (46 ∷ name))))
   unfolding ct
   read_again test a =
       let d : List ℕ = take count t.element in
       whole_read _ (front ++ (46 ∷ name)) _
       (step _ (ap ct_letter (seam (46 ∷ name)) ∙ t.letter.again _) ∙ step _ (t.number.again _)
       ∙ step _ (element_again test a d name t.value.1 t.digits.1.name counted.run (omega (arith, counted.long, t.digits.0)) (omega (arith, counted.long, digits_most (min (digit_run t.element) 3) t.element))
-      ∙ ap (λ (m : ℕ). some ((m, t.value.1), [])) (sym t.digits.1.number))
+      ∙ ap (λ (m : ℕ). Some ((m, t.value.1), [])) (sym t.digits.1.number))
       ∙ step _ (passed (leb t.value.0 255) [] t.range))
 
   pub low : ascii front ≡ true

@@ -1,9 +1,9 @@
 -- The names of timers and counters: how many letters each has, and that they are bytes below 128.
+use Rattle.std.specs.Prelude.{Some}
 use Prim.Native.Nat.{ℕ, ◌<◌, ◌≤◌}
 use Prim.Native.String.{String}
 use mathlib.Core.Path.{◌≡◌, refl, ap, ◌∙◌}
 use mathlib.Core.List.{List, [], ◌∷◌}
-use mathlib.Core.Option.{some}
 use mathlib.Core.Bool.{Bool, true, false, ◌&&◌, cond}
 use native.Mathlib.Omega.{arith}
 use borrow.Author.Tests.{eqb-true, ltb-true, lt-ltb, ltb-false}
@@ -64,7 +64,7 @@ name_in_lem (x ∷ xs) s h =
     let q = both (ascii (bytes x.0)) (fit xs) p.1 in
     go (spelled true (bytes x.0) s) refl (eqb-true _ _ p.0) q.0 (name_in_lem xs s q.1)
   where
-    go : (t : Bool) → spelled true (bytes x.0) s ≡ t → length (bytes x.0) ≡ letters_of x.1 → ascii (bytes x.0) ≡ true → Holds (Name s) (name_in xs s) → Holds (Name s) (cond t (some (x.1, [])) (name_in xs s))
+    go : (t : Bool) → spelled true (bytes x.0) s ≡ t → length (bytes x.0) ≡ letters_of x.1 → ascii (bytes x.0) ≡ true → Holds (Name s) (name_in xs s) → Holds (Name s) (cond t (Some (x.1, [])) (name_in xs s))
     go true e l a k = let r = spelt (bytes x.0) s a e in that (record { letters = r.long ∙ l; small = r.small; end = refl })
     go false e l a k = k
 

@@ -1,54 +1,42 @@
--- Laws by which the readers of a tag are proved: each says what the reading gives from what was met.
-use Prim.Native.Nat.{ℕ, ◌-◌}
+-- What the readings give, as the reader of a tag finds it.
+use Rattle.std.specs.Prelude.{Result, Ok, Err}
+use Prim.Native.Nat.{ℕ}
 use mathlib.Core.Path.{◌≡◌, sym, ◌∙◌}
 use mathlib.Core.List.{List}
-use mathlib.Core.Bool.{Bool, true, false, not}
-use borrow.Author.Tests.{not-true, not-false}
-use lib.ListN.{length}
-use Rattle.file_type.specs.declared.FileType.{FileType}
+use mathlib.Core.Bool.{Bool, true, false}
+use Rattle.base.specs.declared.refusal.Refusal.{Refusal}
+use Rattle.base.specs.declared.refusal.Refusal.TheVariants.{RetiredSeparator}
 use Rattle.address_spec.specs.Spelling.{address_of}
-use Rattle.address_spec.specs.declared.Maybe.{Maybe}
 use Rattle.address_spec.specs.declared.Address.{Address}
-use Rattle.address_spec.specs.declared.Parsed.TheVariants as parsed
 use Rattle.address_readings.specs.declared.Reading.{Reading}
 use Rattle.address_readings.specs.declared.Reading.TheVariants.{New, Stored}
-use Rattle.address_readings.specs.Readings.{timed, retired, address_in}
-use Rattle.address_readings.specs.Places.{name_length, plain_before, retired_by}
+use Rattle.address_readings.specs.Readings.{retired, address_in}
+use Rattle.address_readings.specs.Places.{retired_by}
 use Rattle.address_readings.proofs.FromTheEnd.{retired_by_lem}
 
--- ---- is it retired?
-module _ (l : List ℕ) (t : FileType) (m : Maybe) (b : Bool) (e : b ≡ timed t) where
-  pub untimed_by : not b ≡ true → false ≡ retired_by l t m
-  unfolding retired_by
-  untimed_by h = rw (← e, not-true b h)
+-- what the stored reading refuses, both refuse
+pub refused_in : (r : Reading) (s : List ℕ) (e : Refusal) → address_of s ≡ Err e → address_in r s ≡ Err e
+unfolding address_in retired
+refused_in Stored s e h = h
+refused_in New s e h = rw h
 
-  pub timed_by : (end : ℕ) (p : Bool) → not b ≡ false → end ≡ length l - name_length m → p ≡ plain_before l end → not p ≡ retired_by l t m
-  unfolding retired_by
-  timed_by end p h k f = rw (← e, not-false b h, ← k, ← f)
+-- what it takes, the new one takes unless it is retired
+module _ (r : Reading) (s : List ℕ) (a : Address) {p : Result Address Refusal} (w : p ≡ address_of s) (h : p ≡ Ok a) where
+  accepts : address_of s ≡ Ok a
+  accepts = sym w ∙ h
 
--- ---- the reading
-module _ (r : Reading) (s : List ℕ) where
-  pub refused_in : (n : ℕ) → parsed.Refused n ≡ address_of s → parsed.Refused n ≡ address_in r s
-  unfolding address_in retired
-  refused_in n e = go r
-    where
-      go : (r : Reading) → parsed.Refused n ≡ address_in r s
-      go Stored = e
-      go New = rw (← e)
+  pub stored_in : r ≡ Stored → Ok a ≡ address_in r s
+  unfolding address_in
+  stored_in e = rw (e, accepts)
 
-  module _ (a : Address) (e : parsed.Is a ≡ address_of s) where
-    pub stored_in : r ≡ Stored → parsed.Is a ≡ address_in r s
+  module _ (e : r ≡ New) {b : Bool} (f : b ≡ retired_by s a.file_type a.sub_element) where
+    is_retired : retired s ≡ b
+    is_retired = sym (f ∙ retired_by_lem s a accepts)
+
+    pub retired_in : b ≡ true → Err RetiredSeparator ≡ address_in r s
     unfolding address_in
-    stored_in h = rw h e
+    retired_in g = rw (e, is_retired, g)
 
-    module _ (h : r ≡ New) (b : Bool) (f : b ≡ retired_by s a.file_type a.sub_element) where
-      is_retired : retired s ≡ b
-      is_retired = sym (f ∙ retired_by_lem s a (sym e))
-
-      pub retired_in : b ≡ true → parsed.Refused 39 ≡ address_in r s
-      unfolding address_in
-      retired_in g = rw (h, is_retired ∙ g)
-
-      pub kept_in_lem : b ≡ false → parsed.Is a ≡ address_in r s
-      unfolding address_in
-      kept_in_lem g = rw (h, is_retired ∙ g) e
+    pub kept_in_lem : b ≡ false → Ok a ≡ address_in r s
+    unfolding address_in
+    kept_in_lem g = rw (e, is_retired, g, accepts)

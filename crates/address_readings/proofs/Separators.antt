@@ -1,8 +1,8 @@
 -- The separator of a timer or counter: reading with a test of it is reading without, and then asking.
+use Rattle.std.specs.Prelude.{Option, None, Some}
 use Prim.Native.Nat.{ℕ, zero, suc, min, ◌≤◌, ◌<◌}
 use mathlib.Core.Path.{◌≡◌, refl, ap, sym, ◌∙◌}
 use mathlib.Core.List.{List, [], ◌∷◌}
-use mathlib.Core.Option.{Option, none, some}
 use mathlib.Core.Bool.{Bool, true, false, cond}
 use native.Mathlib.Nat.{not-suc-le-zero}
 use native.Mathlib.Omega.{arith}
@@ -17,7 +17,6 @@ use Rattle.parser_spec.specs.Parts.{Part, then, or_else, ended, whole, here, one
 use Rattle.parser_spec.specs.Characters.{character, utf8, first_of}
 use Rattle.parser_spec.proofs.Characters.{small_character}
 use Rattle.address_spec.specs.Spelling.{address, file_then, separates, name_in, ct_names, cut, cuts, element_name, ct}
-use Rattle.address_spec.specs.declared.Maybe.TheVariants.{Missing, Is}
 use Rattle.address_spec.specs.declared.Address.{Address}
 use Rattle.address_readings.specs.Readings.{stands, element_digits, past_element, up_to_separator, separator, plain, plainly}
 
@@ -25,7 +24,7 @@ use Rattle.address_readings.specs.Readings.{stands, element_digits, past_element
 pub behind_slash : (x : ℕ) → 48 ≤ x → plain x ≡ false
 behind_slash x h = rw (ne_eqb x 46 (λ (e : x ≡ 46). omega arith), ne_eqb x 47 (λ (e : x ≡ 47). omega arith))
 
-digit_character : (b : ℕ) (s : List ℕ) → is_digit b ≡ true → character (b ∷ s) ≡ some (b, s)
+digit_character : (b : ℕ) (s : List ℕ) → is_digit b ≡ true → character (b ∷ s) ≡ Some (b, s)
 digit_character b s e = let h : b ≤ 57 = leb-true b 57 (both (leb 48 b) (leb b 57) e).1 in small_character b s (omega arith)
 
 among_digits : (k : ℕ) (s : List ℕ) → k < digit_run s → plainly (character (drop k s)) ≡ false
@@ -40,9 +39,9 @@ among_digits k (b ∷ s) h = go (is_digit b) refl (λ k. among_digits k s) k h
 
 -- ---- one cut, and the longest first
 abbrev only : {A : Type 0} → Bool → Option A → Option A
-only t x = cond t x none
+only t x = cond t x None
 
-only_none : {A : Type 0} (t : Bool) → ◌≡◌ {A = Option A} (only t none) none
+only_none : {A : Type 0} (t : Bool) → ◌≡◌ {A = Option A} (only t None) None
 only_none true = refl
 only_none false = refl
 
@@ -56,7 +55,7 @@ plain_separates x e = go (eqb x 10) refl
 
 -- what follows a separator
 abbrev name : ℕ → Option (Unit {0} × List ℕ) → Option ((ℕ × ℕ) × List ℕ)
-name e x = then x (λ _ r. then (name_in ct_names r) (λ n q. some ((e, n), q)))
+name e x = then x (λ _ r. then (name_in ct_names r) (λ n q. Some ((e, n), q)))
 
 cut_plain : (k : ℕ) (s : List ℕ) → cut character plain k s ≡ only (plainly (character (drop k s))) (cut character separates k s)
 unfolding cut one then here
@@ -67,8 +66,8 @@ cut_plain k s = go (character (drop k s))
     by false x r e = refl
 
     go : (z : Option (ℕ × List ℕ)) → name (number_of (take k s)) (then z (λ x. here (plain x))) ≡ only (plainly z) (name (number_of (take k s)) (then z (λ x. here (separates x))))
-    go none = refl
-    go (some p) = by (plain p.0) p.0 p.1 refl
+    go None = refl
+    go (Some p) = by (plain p.0) p.0 p.1 refl
 
 pub digits_most : (k : ℕ) (s : List ℕ) → element_digits k s ≤ k
 unfolding element_digits
@@ -80,7 +79,7 @@ digits_most (suc k) s = go (stands (cut character separates (suc k) s)) (digits_
     go false h = omega arith
 
 -- fewer digits than there are leave a digit behind them
-cuts_fewer : (k : ℕ) (s : List ℕ) → k < digit_run s → cuts character plain k s ≡ none
+cuts_fewer : (k : ℕ) (s : List ℕ) → k < digit_run s → cuts character plain k s ≡ None
 unfolding cuts or_else
 cuts_fewer zero s h = refl
 cuts_fewer (suc k) s h = rw (cut_plain (suc k) s, among_digits (suc k) s h) (cuts_fewer k s (omega arith))
@@ -88,16 +87,16 @@ cuts_fewer (suc k) s h = rw (cut_plain (suc k) s, among_digits (suc k) s h) (cut
 cuts_plain : (k : ℕ) (s : List ℕ) → k ≤ digit_run s → cuts character plain k s ≡ only (plainly (character (drop (element_digits k s) s))) (cuts character separates k s)
 unfolding cuts element_digits or_else
 cuts_plain zero s h = sym (only_none (plainly (character s)))
-cuts_plain (suc k) s h = ap (or_else (cut character plain (suc k) s)) (cuts_fewer k s h) ∙ ap (λ x. or_else x none) (cut_plain (suc k) s) ∙ go (cut character separates (suc k) s)
+cuts_plain (suc k) s h = ap (or_else (cut character plain (suc k) s)) (cuts_fewer k s h) ∙ ap (λ x. or_else x None) (cut_plain (suc k) s) ∙ go (cut character separates (suc k) s)
   where
-    by : (t : Bool) (v : (ℕ × ℕ) × List ℕ) → or_else (only t (some v)) none ≡ only t (some v)
+    by : (t : Bool) (v : (ℕ × ℕ) × List ℕ) → or_else (only t (Some v)) None ≡ only t (Some v)
     by true v = refl
     by false v = refl
 
-    go : (x : Option ((ℕ × ℕ) × List ℕ)) → or_else (only (plainly (character (drop (suc k) s))) x) none
+    go : (x : Option ((ℕ × ℕ) × List ℕ)) → or_else (only (plainly (character (drop (suc k) s))) x) None
         ≡ only (plainly (character (drop (cond (stands x) (suc k) (element_digits k s)) s))) (or_else x (cuts character separates k s))
-    go none = rw (only_none {A = (ℕ × ℕ) × List ℕ} (plainly (character (drop (suc k) s))), among_digits (element_digits k s) s (omega (arith, digits_most k s)))
-    go (some v) = by (plainly (character (drop (suc k) s))) v
+    go None = rw (only_none {A = (ℕ × ℕ) × List ℕ} (plainly (character (drop (suc k) s))), among_digits (element_digits k s) s (omega (arith, digits_most k s)))
+    go (Some v) = by (plainly (character (drop (suc k) s))) v
 
 abbrev behind_element : List ℕ → Bool
 behind_element s = plainly (character (drop (element_digits (min (digit_run s) 3) s) s))
@@ -109,7 +108,7 @@ name_plain s = cuts_plain (min (digit_run s) 3) s (omega arith)
 -- ---- the whole tag
 -- what follows an element and a name, and what follows the file
 abbrev told : List ℕ → FileType → ℕ → Option ((ℕ × ℕ) × List ℕ) → Option (Address × List ℕ)
-told tag t f x = then x (λ y r. then (here (leb y.0 255) r) (λ _ q. some (address t f y.0 Missing (Is y.1) true 1 (length tag), q)))
+told tag t f x = then x (λ y r. then (here (leb y.0 255) r) (λ _ q. Some (address t f y.0 None (Some y.1) true 1 (length tag), q)))
 
 abbrev behind_file : (ℕ → Bool) → List ℕ → FileType → ℕ → Part Address
 behind_file test tag t f r = told tag t f (element_name character test r)
@@ -124,10 +123,10 @@ ct_plain tag = letters (first_of utf8 (("C", C) ∷ ("T", T) ∷ []) tag)
 
     files : (t : FileType) (z : Option (ℕ × List ℕ)) → ended (then z (behind_file plain tag t))
         ≡ only (plainly (then (then z (λ _. past_element)) (λ _. character))) (ended (then z (behind_file separates tag t)))
-    files t none = refl
-    files t (some p) = ap (λ x. ended (told tag t p.0 x)) (name_plain p.1) ∙ by t p.0 (behind_element p.1) (element_name character separates p.1)
+    files t None = refl
+    files t (Some p) = ap (λ x. ended (told tag t p.0 x)) (name_plain p.1) ∙ by t p.0 (behind_element p.1) (element_name character separates p.1)
 
     letters : (z : Option (FileType × List ℕ)) → ended (then z (λ t r. then (file_then ":" r) (behind_file plain tag t)))
         ≡ only (plainly (then (then z (λ _ r. then (file_then ":" r) (λ _. past_element))) (λ _. character))) (ended (then z (λ t r. then (file_then ":" r) (behind_file separates tag t))))
-    letters none = refl
-    letters (some p) = files p.0 (file_then ":" p.1)
+    letters None = refl
+    letters (Some p) = files p.0 (file_then ":" p.1)

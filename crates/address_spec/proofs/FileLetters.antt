@@ -1,38 +1,36 @@
 -- U+0131 is an I and U+017F is an S where a file letter is read: the same answer, with a kept text that is one byte longer.
+use Rattle.std.specs.Prelude.{Option, None, Some, Ok, Err}
 use Prim.Native.Nat.{ℕ, suc, ◌≤◌}
 use Prim.Native.Char.{Char, code}
 use mathlib.Core.Path.{◌≡◌, refl, ap, sym, subst, ◌∙◌}
 use mathlib.Core.List.{List, ◌∷◌}
-use mathlib.Core.Option.{Option, none, some}
 use mathlib.Core.Bool.{Bool, true, false, cond}
 use native.Mathlib.Omega.{arith}
 use borrow.Author.Tests.{le-leb}
 use lib.Dec.{eqb}
 use lib.ListN.{length}
+use Rattle.base.specs.declared.refusal.Refusal.TheVariants.{MalformedTag}
 use Rattle.parser_spec.specs.Parts.{Part, then, at_end, ended, whole, here, one, before, before_byte}
 use Rattle.parser_spec.specs.Characters.{table, byte_in, bytes_in, point_in, character_in, character, well_formed, capital, utf8, letter_of, first_of}
 use Rattle.parser_spec.proofs.Written.{behind_same, step}
 use Rattle.parser_spec.proofs.Characters.{formed_next, first_by}
 use Rattle.address_spec.specs.Spelling.{kept_of, ct, lfbn, slot, io, st_or_a, sta, status, bits, or_try, last_forms, separates, form_of, accepted, address_of, longer, one_longer, FileLetters}
-use Rattle.address_spec.specs.declared.Maybe.{Maybe}
-use Rattle.address_spec.specs.declared.Maybe.TheVariants.{Missing, Is}
 use Rattle.address_spec.specs.declared.Address.{Address}
-use Rattle.address_spec.specs.declared.Parsed.TheVariants as parsed
 
 -- ---- the same answer but for a kept text that is one byte longer: of a part, which leaves the same, and of a form
 data Longer : Option (Address × List ℕ) → Option (Address × List ℕ) → Type 0 where
-  nothing : Longer none none
-  that : {v w : Address} {r : List ℕ} → v ≡ longer w → Longer (some (v, r)) (some (w, r))
+  nothing : Longer None None
+  that : {v w : Address} {r : List ℕ} → v ≡ longer w → Longer (Some (v, r)) (Some (w, r))
 
 data LongerForm : Option Address → Option Address → Type 0 where
-  no : LongerForm none none
-  is : {v w : Address} → v ≡ longer w → LongerForm (some v) (some w)
+  no : LongerForm None None
+  is : {v w : Address} → v ≡ longer w → LongerForm (Some v) (Some w)
 
 -- behind one part, and behind two that give the same
 any_then : {A : Type 0} (x : Option (A × List ℕ)) {k l : A → Part Address} → ((v : A) (r : List ℕ) → Longer (k v r) (l v r)) → Longer (then x k) (then x l)
 unfolding then
-any_then none f = nothing
-any_then (some p) f = f p.0 p.1
+any_then None f = nothing
+any_then (Some p) f = f p.0 p.1
 
 same_then : {A : Type 0} {x y : Option (A × List ℕ)} {k l : A → Part Address} → x ≡ y → ((v : A) (r : List ℕ) → Longer (k v r) (l v r)) → Longer (then x k) (then y l)
 same_then {x} {k} {l} e f = subst (λ z. Longer (then x k) (then z l)) e (any_then x f)
@@ -42,7 +40,7 @@ unfolding ended
 ended_longer nothing = no
 ended_longer (that {v = v} {w = w} {r = r} e) = go (at_end r)
   where
-    go : (t : Bool) → LongerForm (cond t (some v) none) (cond t (some w) none)
+    go : (t : Bool) → LongerForm (cond t (Some v) None) (cond t (Some w) None)
     go true = is e
     go false = no
 
@@ -51,13 +49,13 @@ unfolding or_try
 try_longer no k = k
 try_longer (is e) k = is e
 
-answer_longer : (b : Bool) {x y : Option Address} → LongerForm x y → cond b (accepted x) (parsed.Refused 1) ≡ one_longer (cond b (accepted y) (parsed.Refused 1))
+answer_longer : (b : Bool) {x y : Option Address} → LongerForm x y → cond b (accepted x) (Err MalformedTag) ≡ one_longer (cond b (accepted y) (Err MalformedTag))
 answer_longer false h = refl
 answer_longer true no = refl
-answer_longer true (is e) = ap parsed.Is e
+answer_longer true (is e) = ap Ok e
 
 -- ---- two tags with the same behind their first characters, which stand for one letter: the first tag is a byte longer
-module _ (tag plain s : List ℕ) (x y : ℕ) (e : character tag ≡ some (x, s)) (f : character plain ≡ some (y, s)) (h : capital x ≡ capital y)
+module _ (tag plain s : List ℕ) (x y : ℕ) (e : character tag ≡ Some (x, s)) (f : character plain ≡ Some (y, s)) (h : capital x ≡ capital y)
     (all : length tag ≡ suc (length plain)) (part : before "{" tag ≡ suc (before "{" plain)) where
   letter_same : (v : ℕ) → letter_of utf8 v tag ≡ letter_of utf8 v plain
   unfolding letter_of one
@@ -66,9 +64,9 @@ module _ (tag plain s : List ℕ) (x y : ℕ) (e : character tag ≡ some (x, s)
   first_same : {A : Type 0} (xs : List (Char × A)) → first_of utf8 xs tag ≡ first_of utf8 xs plain
   first_same xs = first_by utf8 utf8 tag plain letter_same xs
 
-  kept_longer : (m : Maybe) → kept_of m tag ≡ suc (kept_of m plain)
-  kept_longer Missing = part
-  kept_longer (Is n) = all
+  kept_longer : (m : Option ℕ) → kept_of m tag ≡ suc (kept_of m plain)
+  kept_longer None = part
+  kept_longer (Some n) = all
 
   st_same : (st : Bool) → st_or_a utf8 st tag ≡ st_or_a utf8 st plain
   unfolding st_or_a

@@ -1,7 +1,6 @@
 pub mod Forms
 pub mod Ranges
 pub mod PhrasesLeave
-pub mod FormReaders
 pub mod SpellingRows
 pub mod Unchanged
 pub mod FileLetters

@@ -1,8 +1,8 @@
 -- What a phrase of an address leaves stands at the end of what it was given.
+use Rattle.std.specs.Prelude.{Some}
 use Prim.Native.Nat.{ℕ}
 use mathlib.Core.Bool.{Bool, true, false, cond}
 use mathlib.Core.List.{List}
-use mathlib.Core.Option.{some}
 use lib.Dec.{eqb}
 use Rattle.parser_spec.specs.DecimalNumbers.{digit_run}
 use Rattle.parser_spec.specs.Parts.{then, digits}
@@ -27,7 +27,7 @@ pub ignored_leaves : (s : List ℕ) → Leaves s (ignored s)
 unfolding ignored
 ignored_leaves s = go (eqb (digit_run s) 0)
   where
-    go : (t : Bool) → Leaves {A = Unit {0}} s (cond t (some (tt, s)) (then (digits 3 s) (λ _ r. some (tt, r))))
+    go : (t : Bool) → Leaves {A = Unit {0}} s (cond t (Some (tt, s)) (then (digits 3 s) (λ _ r. Some (tt, r))))
     go true = give_leaves s
     go false = then_leaves (digits_leaves 3 s) λ n r. give_leaves r
 

@@ -1,15 +1,17 @@
 -- Every accepted address is in range: its type, file, element, position and count are among those that can be spelled.
+use Rattle.std.specs.Prelude.{Option, None, Some, Ok, Err}
 use Prim.Native.Nat.{ℕ, ◌/◌, ◌≤◌}
 use mathlib.Core.Path.{◌≡◌, refl}
 use mathlib.Core.Logic.{◌⊎◌, inl, inr}
 use mathlib.Core.List.{List}
-use mathlib.Core.Option.{Option, none, some}
 use mathlib.Core.Bool.{Bool, true, false, ◌&&◌, cond}
 use native.Mathlib.Omega.{arith}
 use borrow.Author.Tests.{le-leb, leb-true, eqb-true}
 use lib.Dec.{leb, eqb}
 use lib.ListN.{length}
 use Rattle.base.proofs.EveryPlace.{both}
+use Rattle.base.specs.declared.refusal.Refusal.{Refusal}
+use Rattle.base.specs.declared.refusal.Refusal.TheVariants.{MalformedTag}
 use Rattle.file_type.specs.declared.FileType.{FileType}
 use Rattle.file_type.specs.declared.FileType.TheVariants.{O, I, S, B, T, C, R, N, F, ST, A, L, MG, PD, PLS}
 use Rattle.parser_spec.specs.Parts.{digits_in}
@@ -19,7 +21,6 @@ use Rattle.parser_spec.proofs.Held.{Holds, that, and_next, and_any, held_of, who
 use Rattle.address_spec.specs.Elements.{Elements, elements_of, filed, slotted, allowed, spellable}
 use Rattle.address_spec.specs.Spelling.{file_before, optional_position, slots, slot, st_or_a, ct, lfbn, io, sta, status, bits, or_try, last_forms, separates, form_of, accepted, address_of}
 use Rattle.address_spec.specs.declared.Address.{Address}
-use Rattle.address_spec.specs.declared.Parsed.TheVariants as parsed
 
 abbrev pub CanSpell : Address → Type 0
 CanSpell x = spellable (elements_of x) ≡ true
@@ -72,13 +73,13 @@ Count false n = Unit {0}
 
 -- ---- the forms, of any alphabet
 module _ (alphabet : Alphabet) (tag : List ℕ) (x : Address) where
-  ct_can : (separator : ℕ → Bool) → ct alphabet separator tag ≡ some x → CanSpell x
+  ct_can : (separator : ℕ → Bool) → ct alphabet separator tag ≡ Some x → CanSpell x
   unfolding ct spellable
   ct_can separator k =
       held_of {P = Can} (and_next (first_held alphabet (Filed One) _ (timed C, (timed T, tt)) tag) λ t r h. and_next (file_held 58 r) λ f r u.
       and_any _ λ y r. and_next (here_held (leb y.0 255) r) λ _ r v. that (h f y.0 1 u.0 u.1 (leb-true _ _ v.0) refl)) (whole_some _ tag x k)
 
-  lfbn_can : lfbn alphabet tag ≡ some x → CanSpell x
+  lfbn_can : lfbn alphabet tag ≡ Some x → CanSpell x
   unfolding lfbn spellable
   lfbn_can k =
       held_of {P = Can} (and_next (first_held alphabet (Filed Any) _ (each L, (each F, (each B, (each N, tt)))) tag) λ t r h. and_next (file_held 58 r) λ f r u.
@@ -87,13 +88,13 @@ module _ (alphabet : Alphabet) (tag : List ℕ) (x : Address) where
       each : (t : FileType) (f e n : ℕ) → 1 ≤ f → f ≤ 255 → e ≤ 255 → Unit {0} → filed (elements t f e 0 n) ≡ true
       each t f e n l u v w = filed_yes t f e n l u v
 
-  io_can : io alphabet tag ≡ some x → CanSpell x
+  io_can : io alphabet tag ≡ Some x → CanSpell x
   unfolding io
   io_can k =
       held_of {P = Can} (and_next (slot_held alphabet tag) λ t r h. and_next (in_held 3 0 255 r) λ e r u. and_next (position_held r) λ p r v.
       and_any _ λ y r. that (h e p y.1 u.1 v.1)) (whole_some _ tag x k)
 
-  st_can : sta alphabet true tag ≡ some x → CanSpell x
+  st_can : sta alphabet true tag ≡ Some x → CanSpell x
   unfolding sta st_or_a spellable
   st_can k =
       held_of {P = Can} (and_next (st_held tag) λ t r h. and_next (file_held 58 r) λ f r u. and_next (in_held 4 0 255 r) λ e r v.
@@ -105,7 +106,7 @@ module _ (alphabet : Alphabet) (tag : List ℕ) (x : Address) where
       st_held : (s : List ℕ) → Holds (λ (t : FileType) (r : List ℕ). Filed (Count true) t) (st_or_a alphabet true s)
       st_held s = and_any _ λ _ r. and_any _ λ _ r. that each
 
-  a_can : sta alphabet false tag ≡ some x → CanSpell x
+  a_can : sta alphabet false tag ≡ Some x → CanSpell x
   unfolding sta st_or_a spellable
   a_can k =
       held_of {P = Can} (and_next (a_held tag) λ t r h. and_next (file_held 58 r) λ f r u. and_next (in_held 4 0 255 r) λ e r v.
@@ -114,40 +115,40 @@ module _ (alphabet : Alphabet) (tag : List ℕ) (x : Address) where
       a_held : (s : List ℕ) → Holds (λ (t : FileType) (r : List ℕ). Filed Any t) (st_or_a alphabet false s)
       a_held s = and_any _ λ _ r. that (λ f e n l u v w. filed_yes A f e n l u v)
 
-  s_can : status alphabet tag ≡ some x → CanSpell x
+  s_can : status alphabet tag ≡ Some x → CanSpell x
   unfolding status spellable
   s_can k =
       held_of {P = Can} (and_any _ λ _ r. and_any _ λ _ r. and_next (in_held 3 0 255 r) λ e r v. and_any _ λ y r.
       that (rw (le-leb e 255 v.1))) (whole_some _ tag x k)
 
-  b_can : bits alphabet tag ≡ some x → CanSpell x
+  b_can : bits alphabet tag ≡ Some x → CanSpell x
   unfolding bits spellable
   b_can k =
       held_of {P = Can} (and_any _ λ _ r. and_next (file_held 47 r) λ f r u. and_next (in_held 4 0 4095 r) λ y r v. and_any _ λ n r.
       that (filed_yes B f (y / 16) n u.0 u.1 (omega (arith, v.1)))) (whole_some _ tag x k)
 
 -- ---- the forms in turn
-pub one_of : {X : Type 0} (y z : Option Address) {x : Address} → (y ≡ some x → X) → (z ≡ some x → X) → or_try y z ≡ some x → X
+pub one_of : {X : Type 0} (y z : Option Address) {x : Address} → (y ≡ Some x → X) → (z ≡ Some x → X) → or_try y z ≡ Some x → X
 unfolding or_try
-one_of none z f g e = g e
-one_of (some v) z f g e = f e
+one_of None z f g e = g e
+one_of (Some v) z f g e = f e
 
-pub form_can : (alphabet : Alphabet) (separator : ℕ → Bool) (tag : List ℕ) (x : Address) → form_of alphabet separator tag ≡ some x → CanSpell x
+pub form_can : (alphabet : Alphabet) (separator : ℕ → Bool) (tag : List ℕ) (x : Address) → form_of alphabet separator tag ≡ Some x → CanSpell x
 unfolding form_of last_forms
 form_can alphabet separator tag x =
     one_of _ _ (ct_can alphabet tag x separator) (one_of _ _ (lfbn_can alphabet tag x) (one_of _ _ (io_can alphabet tag x) (one_of _ _ (st_can alphabet tag x) (one_of _ _ (a_can alphabet tag x) (one_of _ _ (s_can alphabet tag x) (b_can alphabet tag x))))))
 
-pub refused : {X : Type 0} {n : ℕ} {y : Address} → parsed.Refused n ≡ parsed.Is y → X
-refused e = absurd (let w : ◌≡◌ {A = ℕ} 0 1 = cc in omega arith)
+pub refused : {X : Type 0} {n : Refusal} {y : Address} → Err n ≡ Ok y → X
+refused e = absurd (cc)
 
-pub can : (tag : List ℕ) (x : Address) → address_of tag ≡ parsed.Is x → CanSpell x
+pub can : (tag : List ℕ) (x : Address) → address_of tag ≡ Ok x → CanSpell x
 unfolding address_of
 can tag x = go (leb (length tag) 255 && well_formed tag) (form_of utf8 separates tag) (form_can utf8 separates tag x)
   where
-    go : (t : Bool) (z : Option Address) → (z ≡ some x → CanSpell x) → cond t (accepted z) (parsed.Refused 1) ≡ parsed.Is x → CanSpell x
+    go : (t : Bool) (z : Option Address) → (z ≡ Some x → CanSpell x) → cond t (accepted z) (Err MalformedTag) ≡ Ok x → CanSpell x
     go false z h q = refused q
-    go true none h q = refused q
-    go true (some y) h q = h (cc)
+    go true None h q = refused q
+    go true (Some y) h q = h (cc)
 
 -- ---- how large the numbers are; position 0, or a file of at most 1: so the address fields of a request need at most seven bytes
 never : {X : Type 0} → false ≡ true → X
@@ -201,5 +202,5 @@ module _ (x : Elements) where
   unfolding spellable
   ranged_elements h = by_type x.type h
 
-pub ranged : (tag : List ℕ) (x : Address) → address_of tag ≡ parsed.Is x → Ranged (elements_of x)
+pub ranged : (tag : List ℕ) (x : Address) → address_of tag ≡ Ok x → Ranged (elements_of x)
 ranged tag x e = ranged_elements (elements_of x) (can tag x e)

@@ -1,14 +1,15 @@
 -- For a tag of bytes below 128 every answer is document 01's.
+use Rattle.std.specs.Prelude.{Option, Ok, Err}
 use Prim.Native.Nat.{ℕ, zero, suc, min, ◌-◌, ◌<◌}
 use Prim.Native.Char.{Char}
 use mathlib.Core.Path.{◌≡◌, refl, ap, ap₂, subst, ◌∙◌}
 use mathlib.Core.List.{List, [], ◌∷◌}
-use mathlib.Core.Option.{Option}
 use mathlib.Core.Bool.{Bool, true, false, ◌&&◌, cond}
 use borrow.Author.Tests.{ltb-true}
 use lib.Dec.{leb, ltb, eqb}
 use lib.ListN.{length, drop}
 use Rattle.base.proofs.EveryPlace.{both}
+use Rattle.base.specs.declared.refusal.Refusal.TheVariants.{MalformedTag}
 use Rattle.parser_spec.specs.DecimalNumbers.{digit_run}
 use Rattle.parser_spec.specs.Parts.{Part, then, at_end, ended, whole, here, any_byte, one}
 use Rattle.parser_spec.specs.Characters.{table, character_in, character, characters, well_formed, utf8, bytewise, letter_of, first_of}
@@ -18,7 +19,6 @@ use Rattle.parser_spec.proofs.Written.{behind_same}
 use Rattle.parser_spec.proofs.Characters.{small_character, small_capital, formed_next, letter_by_leaves, first_by_leaves, first_by}
 use Rattle.address_spec.specs.Spelling.{cut, cuts, element_name, ct, lfbn, slot, io, st_or_a, sta, status, bits, or_try, last_forms, separates, form_of, accepted, ascii, address_of, base_address_of, Unchanged}
 use Rattle.address_spec.specs.declared.Address.{Address}
-use Rattle.address_spec.specs.declared.Parsed.TheVariants as parsed
 use Rattle.address_spec.proofs.PhrasesLeave.{file_leaves}
 use Rattle.address_spec.proofs.Ranges.{refused}
 
@@ -110,11 +110,11 @@ unfolding address_of base_address_of
 unchanged tag e = rw (small_formed tag e, e, form_alike tag e separates)
 
 -- what document 01 accepts is accepted as it was
-pub stays : (tag : List ℕ) (x : Address) → base_address_of tag ≡ parsed.Is x → address_of tag ≡ parsed.Is x
+pub stays : (tag : List ℕ) (x : Address) → base_address_of tag ≡ Ok x → address_of tag ≡ Ok x
 unfolding base_address_of
 stays tag x e = go (leb (length tag) 255) (ascii tag) refl e
   where
-    go : (l t : Bool) → ascii tag ≡ t → cond (l && t) (accepted (form_of bytewise separates tag)) (parsed.Refused 1) ≡ parsed.Is x → address_of tag ≡ parsed.Is x
+    go : (l t : Bool) → ascii tag ≡ t → cond (l && t) (accepted (form_of bytewise separates tag)) (Err MalformedTag) ≡ Ok x → address_of tag ≡ Ok x
     go l true a q = unchanged tag a ∙ e
     go true false a q = refused q
     go false false a q = refused q

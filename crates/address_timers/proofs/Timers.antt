@@ -1,20 +1,19 @@
 -- Laws of the names of timers and counters, and of the element in front of them.
+use Rattle.std.specs.Prelude.{Option, None, Some}
 use Prim.Native.Nat.{ℕ, zero, suc, ◌+◌, ◌*◌, ◌≤◌, ◌<◌, ◌-◌, min}
 use Prim.Native.String.{String}
 use mathlib.Core.Path.{◌≡◌, refl, ap, ap₂, sym, ◌∙◌}
 use mathlib.Core.List.{List, [], ◌∷◌}
-use mathlib.Core.Option.{Option, none, some}
-use mathlib.Core.Bool.{Bool, true, false, not, ◌&&◌, cond, and-true, and_assoc}
+use mathlib.Core.Bool.{Bool, true, false, ◌&&◌, cond, and-true, and_assoc}
 use native.Mathlib.Nat.{not-suc-le-zero, add-sub_cancel_left}
 use native.Mathlib.Omega.{arith}
-use borrow.Author.Tests.{eqb-true, eqb-false, leb-true, ltb-true, eq-eqb, ne_eqb, not-true, not-false}
+use borrow.Author.Tests.{eqb-true, eqb-false, leb-true, ltb-true, eq-eqb, ne_eqb}
 use lib.Dec.{eqb, leb, ltb}
 use lib.ListN.{length, take, drop, get_or, length-drop}
 use lib.Seq.{drop-drop, take_all}
 use Rattle.base.specs.Chars.{bytes, upper, spelled}
 use Rattle.base.proofs.Chars.{spelled_short}
 use Rattle.base.proofs.EveryPlace.{both}
-use Rattle.base.proofs.Parts.{two_of, three_of}
 use Rattle.base.proofs.Unmatched.{NoneOf, Unlike, unlike}
 use Rattle.parser_spec.specs.DecimalNumbers.{Run, number_of}
 use Rattle.parser_spec.specs.Parts.{then, or_else, one}
@@ -22,21 +21,12 @@ use Rattle.parser_spec.specs.Characters.{character}
 use Rattle.parser_spec.proofs.Behind.{one_leaves}
 use Rattle.parser_spec.proofs.Characters.{character_leaves}
 use Rattle.parser_spec.proofs.Written.{step}
-use Rattle.parser.specs.CursorAnswers.{placed, eaten_of}
+use Rattle.parser.specs.CursorAnswers.{placed, place_of}
 use Rattle.parser.specs.declared.Cur.{Cur}
-use Rattle.parser.specs.declared.Eaten.{Eaten}
-use Rattle.parser.specs.declared.Eaten.TheVariants as place
-use Rattle.parser.proofs.PartReaders.{Reads, some_eaten, stop_eaten, one_is, one_not}
-use Rattle.parser_characters.specs.CharacterAnswers.{character_of}
-use Rattle.parser_characters.specs.declared.ReadCharacter.{ReadCharacter}
-use Rattle.parser_characters.specs.declared.ReadCharacter.TheVariants as read
-use Rattle.parser_characters.proofs.CharacterReaders.{some_character, small_reads}
-use Rattle.address_spec.specs.ReaderAnswers.{maybe_of, named_of}
+use Rattle.parser.proofs.PartReaders.{Reads, some_place, stop_place, one_is, one_not}
+use Rattle.parser_characters.proofs.CharacterReaders.{small_reads}
+use Rattle.address_spec.specs.ReaderAnswers.{to_the_end}
 use Rattle.address_spec.specs.Spelling.{ct_names, name_in, cut, cuts, element_name}
-use Rattle.address_spec.specs.declared.Maybe.{Maybe}
-use Rattle.address_spec.specs.declared.Maybe.TheVariants as maybe
-use Rattle.address_spec.specs.declared.Named.{Named}
-use Rattle.address_spec.specs.declared.Named.TheVariants as named
 
 -- ---- a name by its letters, taken as digits of base 256
 abbrev packed : (ℕ → ℕ) → ℕ → List ℕ → ℕ
@@ -76,8 +66,8 @@ by_number_lem (a ∷ name) (b ∷ s) n m l h k =
 
 -- the name of so many letters and this number
 abbrev keyed : ℕ → ℕ → List (String × ℕ) → Option (ℕ × List ℕ)
-keyed l k [] = none
-keyed l k (x ∷ xs) = cond (eqb l (length (bytes x.0)) && eqb k (packed same 0 (bytes x.0))) (some (x.1, [])) (keyed l k xs)
+keyed l k [] = None
+keyed l k (x ∷ xs) = cond (eqb l (length (bytes x.0)) && eqb k (packed same 0 (bytes x.0))) (Some (x.1, [])) (keyed l k xs)
 
 abbrev all_bytes : List (String × ℕ) → Bool
 all_bytes [] = true
@@ -95,19 +85,19 @@ unfolding name_in
 name_by [] s h k = refl
 name_by (x ∷ xs) s h k =
     let p = both (bytes_only (bytes x.0)) (all_bytes xs) h in
-    ap₂ (λ (t : Bool) (r : Option (ℕ × List ℕ)). cond t (some (x.1, [])) r) (spelled_by_lem (bytes x.0) s p.0 k) (name_by xs s p.1 k)
+    ap₂ (λ (t : Bool) (r : Option (ℕ × List ℕ)). cond t (Some (x.1, [])) r) (spelled_by_lem (bytes x.0) s p.0 k) (name_by xs s p.1 k)
 
 module _ (s : List ℕ) (d : Digits s) (l k : ℕ) (e : length s ≡ l) (f : packed upper 0 s ≡ k) where
   by_key : name_in ct_names s ≡ keyed l k ct_names
   unfolding ct_names
   by_key = name_by ct_names s refl d ∙ ap₂ (λ (l k : ℕ). keyed l k ct_names) e f
 
-  is_name : (v : ℕ) → keyed l k ct_names ≡ some (v, []) → name_in ct_names s ≡ maybe_of (maybe.Is v)
-  unfolding maybe_of
+  is_name : (v : ℕ) → keyed l k ct_names ≡ Some (v, []) → name_in ct_names s ≡ to_the_end (Some v)
+  unfolding to_the_end
   is_name v h = by_key ∙ h
 
-  no_name : keyed l k ct_names ≡ none → name_in ct_names s ≡ maybe_of maybe.Missing
-  unfolding maybe_of
+  no_name : keyed l k ct_names ≡ None → name_in ct_names s ≡ to_the_end None
+  unfolding to_the_end
   no_name h = by_key ∙ h
 
 -- the numbers of the names of so many letters
@@ -115,12 +105,12 @@ abbrev keys_of : ℕ → List (String × ℕ) → List ℕ
 keys_of l [] = []
 keys_of l (x ∷ xs) = cond (eqb l (length (bytes x.0))) (packed same 0 (bytes x.0) ∷ keys_of l xs) (keys_of l xs)
 
-no_key : (l k : ℕ) (xs : List (String × ℕ)) → Unlike same (keys_of l xs) k → keyed l k xs ≡ none
+no_key : (l k : ℕ) (xs : List (String × ℕ)) → Unlike same (keys_of l xs) k → keyed l k xs ≡ None
 no_key l k [] h = refl
 no_key l k (x ∷ xs) h = go (eqb l (length (bytes x.0))) (no_key l k xs) h
   where
-    go : (t : Bool) → (Unlike same (keys_of l xs) k → keyed l k xs ≡ none) → Unlike same (cond t (packed same 0 (bytes x.0) ∷ keys_of l xs) (keys_of l xs)) k
-        → cond (t && eqb k (packed same 0 (bytes x.0))) (some (x.1, [])) (keyed l k xs) ≡ none
+    go : (t : Bool) → (Unlike same (keys_of l xs) k → keyed l k xs ≡ None) → Unlike same (cond t (packed same 0 (bytes x.0) ∷ keys_of l xs) (keys_of l xs)) k
+        → cond (t && eqb k (packed same 0 (bytes x.0))) (Some (x.1, [])) (keyed l k xs) ≡ None
     go true f g = rw (ne_eqb k (packed same 0 (bytes x.0)) g.0) (f g.1)
     go false f g = f g
 
@@ -134,7 +124,7 @@ two_or_three [] = true
 two_or_three (x ∷ xs) = leb 2 (length (bytes x.0)) && (leb (length (bytes x.0)) 3 && two_or_three xs)
 
 module _ (s : List ℕ) (a : length s ≡ 2 → ⊥) (b : length s ≡ 3 → ⊥) where
-  none_of : (xs : List (String × ℕ)) → two_or_three xs ≡ true → name_in xs s ≡ none
+  none_of : (xs : List (String × ℕ)) → two_or_three xs ≡ true → name_in xs s ≡ None
   unfolding name_in
   none_of [] h = refl
   none_of (x ∷ xs) h =
@@ -143,79 +133,64 @@ module _ (s : List ℕ) (a : length s ≡ 2 → ⊥) (b : length s ≡ 3 → ⊥
       let q = both (leb n 3) (two_or_three xs) p.1 in
       rw (← spelled_short true (bytes x.0) s (λ (e : length s ≡ n). omega (arith, leb-true 2 n p.0, leb-true n 3 q.0))) (none_of xs q.1)
 
-  pub other_length : name_in ct_names s ≡ maybe_of maybe.Missing
-  unfolding maybe_of ct_names
+  pub other_length : name_in ct_names s ≡ to_the_end None
+  unfolding to_the_end ct_names
   other_length = none_of ct_names refl
 
--- texts of two bytes, and of three
-module _ (s : List ℕ) (r : Maybe) where
-  pub of_two : length s ≡ 2 → name_in ct_names (get_or s 0 0 ∷ get_or s 1 0 ∷ []) ≡ maybe_of r → name_in ct_names s ≡ maybe_of r
-  of_two e h = ap (name_in ct_names) (two_of s e) ∙ h
+-- names of two letters, and of three: each letter is read as a byte, and taken as a number
+module _ (a b x y p q : ℕ) (e : x ≡ upper a) (f : y ≡ upper b) (d : p ≡ x) (g : q ≡ y) (h : x < 256) (i : y < 256) (k : ℕ) (l : p * 256 + q ≡ k) where
+  pub short_is : (v : ℕ) → keyed 2 k ct_names ≡ Some (v, []) → name_in ct_names (a ∷ b ∷ []) ≡ to_the_end (Some v)
+  short_is v r = is_name (a ∷ b ∷ []) (omega arith, (omega arith, tt)) 2 k refl (omega arith) v r
 
-  pub of_three : length s ≡ 3 → name_in ct_names (get_or s 0 0 ∷ get_or s 1 0 ∷ get_or s 2 0 ∷ []) ≡ maybe_of r → name_in ct_names s ≡ maybe_of r
-  of_three e h = ap (name_in ct_names) (three_of s e) ∙ h
-
-module _ (a b x y : ℕ) (e : x ≡ upper a) (f : y ≡ upper b) (h : x < 256) (i : y < 256) (k : ℕ) (g : x * 256 + y ≡ k) where
-  pub short_is : (v : ℕ) → keyed 2 k ct_names ≡ some (v, []) → name_in ct_names (a ∷ b ∷ []) ≡ maybe_of (maybe.Is v)
-  short_is v q = is_name (a ∷ b ∷ []) (omega arith, (omega arith, tt)) 2 k refl (omega arith) v q
-
-  pub short_not : NoName 2 k → name_in ct_names (a ∷ b ∷ []) ≡ maybe_of maybe.Missing
+  pub short_not : NoName 2 k → name_in ct_names (a ∷ b ∷ []) ≡ to_the_end None
   short_not r = no_name (a ∷ b ∷ []) (omega arith, (omega arith, tt)) 2 k refl (omega arith) (no_key 2 k ct_names (unlike same (keys_of 2 ct_names) k r))
 
-module _ (a b c x y z : ℕ) (e : x ≡ upper a) (f : y ≡ upper b) (g : z ≡ upper c) (h : x < 256) (i : y < 256) (j : z < 256) (k : ℕ) (m : (x * 256 + y) * 256 + z ≡ k) where
-  pub long_is : (v : ℕ) → keyed 3 k ct_names ≡ some (v, []) → name_in ct_names (a ∷ b ∷ c ∷ []) ≡ maybe_of (maybe.Is v)
-  long_is v q = is_name (a ∷ b ∷ c ∷ []) (omega arith, (omega arith, (omega arith, tt))) 3 k refl (omega arith) v q
+module _ (a b c x y z p q r : ℕ) (e : x ≡ upper a) (f : y ≡ upper b) (g : z ≡ upper c) (d : p ≡ x) (m : q ≡ y) (n : r ≡ z) (h : x < 256) (i : y < 256) (j : z < 256) (k : ℕ) (l : (p * 256 + q) * 256 + r ≡ k) where
+  pub long_is : (v : ℕ) → keyed 3 k ct_names ≡ Some (v, []) → name_in ct_names (a ∷ b ∷ c ∷ []) ≡ to_the_end (Some v)
+  long_is v o = is_name (a ∷ b ∷ c ∷ []) (omega arith, (omega arith, (omega arith, tt))) 3 k refl (omega arith) v o
 
-  pub long_not : NoName 3 k → name_in ct_names (a ∷ b ∷ c ∷ []) ≡ maybe_of maybe.Missing
-  long_not r = no_name (a ∷ b ∷ c ∷ []) (omega arith, (omega arith, (omega arith, tt))) 3 k refl (omega arith) (no_key 3 k ct_names (unlike same (keys_of 3 ct_names) k r))
+  pub long_not : NoName 3 k → name_in ct_names (a ∷ b ∷ c ∷ []) ≡ to_the_end None
+  long_not o = no_name (a ∷ b ∷ c ∷ []) (omega arith, (omega arith, (omega arith, tt))) 3 k refl (omega arith) (no_key 3 k ct_names (unlike same (keys_of 3 ct_names) k o))
 
--- ---- the separator
-module _ (test : ℕ → Bool) (s : List ℕ) (i : ℕ) where
-  abbrev found : Eaten
-  found = eaten_of (placed i s (one character test (drop i s)))
+-- ---- the separator, of one byte
+module _ (test : ℕ → Bool) (s : List ℕ) (i : ℕ) (h : i < length s) (l : get_or s i 0 < 128) (t : Bool) (e : t ≡ test (get_or s i 0)) where
+  abbrev found : Option Cur
+  found = place_of (placed i s (one character test (drop i s)))
 
-  module _ (t : Bool) (h : i < length s) (l : get_or s i 0 < 128) (e : t ≡ test (get_or s i 0)) where
-    pub sign_here : not t ≡ false → place.At (record { i = i + 1 }) ≡ found
-    sign_here n = one_is character test s i _ (record { i = i + 1 }) (small_reads s i h l) (sym e ∙ not-false t n)
+  pub sign_here : t ≡ true → Some (record { i = i + 1 }) ≡ found
+  sign_here n = one_is character test s i _ (record { i = i + 1 }) (small_reads s i h l) (sym e ∙ n)
 
-    pub sign_not : not t ≡ true → place.No ≡ found
-    sign_not n = one_not character test s i _ (record { i = i + 1 }) (small_reads s i h l) (sym e ∙ not-true t n)
-
-  module _ (t : Bool) (x : ℕ) (c : Cur) (r : ReadCharacter) (e : r ≡ character_of (placed i s (character (drop i s)))) (g : r ≡ read.Got x c) (f : t ≡ test x) where
-    pub sign_is : not t ≡ false → place.At c ≡ found
-    sign_is n = one_is character test s i x c (some_character s i r e x c g) (sym f ∙ not-false t n)
-
-    pub sign_isn't : not t ≡ true → place.No ≡ found
-    sign_isn't n = one_not character test s i x c (some_character s i r e x c g) (sym f ∙ not-true t n)
+  pub sign_not : t ≡ false → None ≡ found
+  sign_not n = one_not character test s i _ (record { i = i + 1 }) (small_reads s i h l) (sym e ∙ n)
 
 -- ---- an element, a separator and a name
 tail_is : (s : List ℕ) (f : ℕ) → take (length s - f) (drop f s) ≡ drop f s
 tail_is s f = take_all (length s - f) (drop f s) (rw length-drop (omega arith))
 
-module _ (separator : ℕ → Bool) (s : List ℕ) (i k : ℕ) (q : Eaten) (e : q ≡ eaten_of (placed (i + k) s (one character separator (drop (i + k) s)))) where
-  pub cut_no : q ≡ place.No → cut character separator k (drop i s) ≡ named_of named.No
-  unfolding cut named_of
-  cut_no g = rw (drop-drop k i s) (stop_eaten s (i + k) _ q _ e g)
+module _ (separator : ℕ → Bool) (s : List ℕ) (i k : ℕ) (q : Option Cur) (e : q ≡ place_of (placed (i + k) s (one character separator (drop (i + k) s)))) where
+  pub cut_no : q ≡ None → cut character separator k (drop i s) ≡ to_the_end None
+  unfolding cut to_the_end
+  cut_no g = rw (drop-drop k i s) (stop_place s (i + k) _ q _ e g)
 
-  module _ (d : Cur) (g : q ≡ place.At d) where
-    read_on : Reads s (i + k) (one character separator (drop (i + k) s)) tt d.i
-    read_on = some_eaten s (i + k) _ q e d g (one_leaves character character_leaves separator (drop (i + k) s))
+  module _ (d : Cur) (g : q ≡ Some d) where
+    read_on : Reads s (i + k) (one character separator (drop (i + k) s)) tt d
+    read_on = some_place s (i + k) _ q d e g (one_leaves character character_leaves separator (drop (i + k) s))
 
     -- the name begins in the text, or at its end
     pub name_within : i + k ≤ length s → d.i ≤ length s
-    name_within h = omega (arith, read_on.on.end)
+    name_within h = omega (arith, read_on.end)
 
-    cut_at : cut character separator k (drop i s) ≡ then (name_in ct_names (drop d.i s)) (λ n q. some ((number_of (take k (drop i s)), n), q))
+    cut_at : cut character separator k (drop i s) ≡ then (name_in ct_names (drop d.i s)) (λ n q. Some ((number_of (take k (drop i s)), n), q))
     unfolding cut
     cut_at = rw (drop-drop k i s) (step _ read_on.is)
 
-    module _ (m : Maybe) (f : name_in ct_names (take (length s - d.i) (drop d.i s)) ≡ maybe_of m) where
-      pub cut_unnamed : m ≡ maybe.Missing → cut character separator k (drop i s) ≡ named_of named.No
-      unfolding then maybe_of named_of
+    module _ (m : Option ℕ) (f : name_in ct_names (take (length s - d.i) (drop d.i s)) ≡ to_the_end m) where
+      pub cut_unnamed : m ≡ None → cut character separator k (drop i s) ≡ to_the_end None
+      unfolding then to_the_end
       cut_unnamed x = cut_at ∙ rw (← tail_is s d.i, f, x)
 
-      pub cut_named : (n v : ℕ) → m ≡ maybe.Is n → v ≡ number_of (take ((i + k) - i) (drop i s)) → cut character separator k (drop i s) ≡ named_of (named.Got v n)
-      unfolding then maybe_of named_of
+      pub cut_named : (n v : ℕ) → m ≡ Some n → v ≡ number_of (take ((i + k) - i) (drop i s)) → cut character separator k (drop i s) ≡ to_the_end (Some (v, n))
+      unfolding then to_the_end
       cut_named n v x p = cut_at ∙ rw (← tail_is s d.i, f, x, p, add-sub_cancel_left i k)
 
 -- ---- longest cut first
@@ -225,20 +200,20 @@ module _ (separator : ℕ → Bool) where
   cuts_at zero l h = absurd (not-suc-le-zero h)
   cuts_at (suc k) l h = let e : suc k - 1 ≡ k = omega arith in rw e
 
-  pub cuts_start : (s : List ℕ) (i k n : ℕ) → k ≡ min n 3 → Run s i n → (k ≤ length s - i) × (cuts character separator k (drop i s) ≡ element_name character separator (drop i s))
+  pub cuts_start : (s : List ℕ) (i k n : ℕ) → k ≡ min n 3 → Run s i n → cuts character separator k (drop i s) ≡ element_name character separator (drop i s)
   unfolding element_name
-  cuts_start s i k n e run = (omega (arith, run.fits), rw (e, run.is))
+  cuts_start s i k n e run = rw (e, run.is)
 
   module _ (l : List ℕ) (k : ℕ) (inv : cuts character separator k l ≡ element_name character separator l) where
-    pub cuts_none : k ≤ 0 → element_name character separator l ≡ named_of named.No
-    unfolding cuts named_of
+    pub cuts_none : k < 1 → element_name character separator l ≡ to_the_end None
+    unfolding cuts to_the_end
     cuts_none h = let z : k ≡ 0 = omega arith in sym inv ∙ rw z
 
-    module _ (r : Named) (h : 0 < k) (e : cut character separator k l ≡ named_of r) where
-      pub cuts_hit : (m n : ℕ) → r ≡ named.Got m n → element_name character separator l ≡ named_of r
-      unfolding or_else named_of
-      cuts_hit m n g = sym inv ∙ cuts_at k l h ∙ rw (e, g)
+    module _ (h : 1 ≤ k) where
+      pub cuts_hit : (x : ℕ × ℕ) → cut character separator k l ≡ to_the_end (Some x) → element_name character separator l ≡ to_the_end (Some x)
+      unfolding or_else to_the_end
+      cuts_hit x e = sym inv ∙ cuts_at k l h ∙ rw e
 
-      pub cuts_miss : r ≡ named.No → cuts character separator (k - 1) l ≡ element_name character separator l
-      unfolding or_else named_of
-      cuts_miss g = sym (cuts_at k l h ∙ rw (e, g)) ∙ inv
+      pub cuts_miss : cut character separator k l ≡ to_the_end None → cuts character separator (k - 1) l ≡ element_name character separator l
+      unfolding or_else to_the_end
+      cuts_miss e = sym (cuts_at k l h ∙ rw e) ∙ inv

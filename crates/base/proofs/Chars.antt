@@ -4,7 +4,7 @@ use mathlib.Core.Path.{◌≡◌, refl, ap, sym, ◌∙◌}
 use mathlib.Core.List.{List, [], ◌∷◌}
 use mathlib.Core.Bool.{Bool, true, false, not, ◌&&◌}
 use native.Mathlib.Omega.{arith}
-use borrow.Author.Tests.{eq-eqb, ne_eqb, lt-leb, le-leb, not-true, not-false}
+use borrow.Author.Tests.{eq-eqb, ne_eqb, lt-leb, le-leb, not-false}
 use lib.Dec.{eqb}
 use lib.ListN.{length, drop, get_or, drop_of_length-le}
 use Rattle.base.specs.Chars.{letter, spelled}
@@ -48,9 +48,6 @@ module _ (any_case : Bool) where
 
 -- a byte as it is compared
 module _ (any_case : Bool) (b : ℕ) where
-  pub letter_exact : not any_case ≡ true → b ≡ letter any_case b
-  letter_exact e = rw (not-true any_case e)
-
   pub letter_low : not any_case ≡ false → b < 97 → b ≡ letter any_case b
   letter_low e h = rw (not-false any_case e, lt-leb 97 b h)
 

@@ -3,3 +3,4 @@ pub mod Masks
 pub mod Numbers
 pub mod Outcome
 pub mod Put
+pub mod Refusals

@@ -2,68 +2,48 @@
 // A writer that finds no room changes nothing and answers the place that it was given.
 #![tactic(auto)]
 
-ghost use Rattle.std.specs.Prelude.{◌≡◌, ◌+◌, ◌≤◌, ◌<◌, min, length, take, drop};
+mod refusal;
+
+ghost use Rattle.std.specs.Prelude.{◌≡◌, ◌+◌, ◌≤◌, length, take, drop};
 ghost use Rattle.base.specs.Chars.{letter as chars_letter, spelled};
 ghost use Rattle.base.specs.Masks.{mix, bit_mask};
 ghost use Rattle.base.specs.Numbers.{low_first, number};
 ghost use Rattle.base.specs.Put.{Wrote, Puts};
 
-fn lay_all(out: &mut [u8], at: usize, bytes: &[u8]) -> usize
-    requires { at + length bytes.now ≤ length out.old }
-    ensures { Wrote out.old at bytes.now result out.new }
-{
-    let mut i = 0;
-    while i < bytes.len() {
-        out[at + i] = bytes[i];
-        i += 1;
-    }
-    at + i
-}
+pub use refusal::Refusal;
 
 // These bytes from a place on. The answer is the place behind them.
 pub fn put_all(out: &mut [u8], at: usize, bytes: &[u8]) -> usize
     ensures { Puts out.old at bytes.now result out.new }
 {
-    if out.len() < at {
+    if out.len() < at || out.len() - at < bytes.len() {
         return at;
     }
-    if out.len() - at < bytes.len() {
-        return at;
-    }
-    lay_all(out, at, bytes)
+    let end = at + bytes.len();
+    out[at..end].copy_from_slice(bytes);
+    end
 }
 
 fn lay_number(out: &mut [u8], at: usize, k: usize, n: u64) -> usize
     requires { at + k ≤ length out.old }
     ensures { Wrote out.old at (low_first k n) result out.new }
 {
-    let mut i = 0;
     let mut rest = n;
-    while i < k {
+    for i in 0..k {
         out[at + i] = (rest % 256) as u8;
         rest /= 256;
-        i += 1;
     }
-    at + i
+    at + k
 }
 
 // The low k bytes of a number, low byte first, from a place on: a word has 2, a long 4.
 pub fn put_number(out: &mut [u8], at: usize, k: usize, n: u64) -> usize
     ensures { Puts out.old at (low_first k n) result out.new }
 {
-    if out.len() < at {
-        return at;
-    }
-    if out.len() - at < k {
+    if out.len() < at || out.len() - at < k {
         return at;
     }
     lay_number(out, at, k, n)
-}
-
-fn wide(b: u8) -> u16
-    ensures { (result ≡ b) × (result < 256) }
-{
-    b as u16
 }
 
 // The word at a place; bytes that are missing count as 0.
@@ -73,11 +53,11 @@ pub fn word_at(s: &[u8], at: usize) -> u16
     if s.len() <= at {
         return 0;
     }
-    let low = wide(s[at]);
+    let low = u16::from(s[at]);
     if s.len() - at < 2 {
         return low;
     }
-    low + 256 * wide(s[at + 1])
+    low + 256 * u16::from(s[at + 1])
 }
 
 // The long at a place; bytes that are missing count as 0.
@@ -87,27 +67,18 @@ pub fn long_at(s: &[u8], at: usize) -> u32
     if s.len() <= at {
         return 0;
     }
-    let low = word_at(s, at) as u32;
+    let low = u32::from(word_at(s, at));
     if s.len() - at < 2 {
         return low;
     }
-    low + 65536 * (word_at(s, at + 2) as u32)
+    low + 65536 * u32::from(word_at(s, at + 2))
 }
 
 // A byte as it is compared: where any case counts, a small letter is its capital one.
 pub fn letter(b: u8, any_case: bool) -> u8
     ensures { result ≡ chars_letter any_case b }
 {
-    if !any_case {
-        return b;
-    }
-    if b < 97 {
-        return b;
-    }
-    if b > 122 {
-        return b;
-    }
-    b - 32
+    if any_case { b.to_ascii_uppercase() } else { b }
 }
 
 // Is `s` the text `name`? Where any case counts, `name` has capital letters.
@@ -117,12 +88,10 @@ pub fn spells(s: &[u8], name: &[u8], any_case: bool) -> bool
     if s.len() != name.len() {
         return false;
     }
-    let mut i = 0;
-    while i < name.len() {
-        if letter(s[i], any_case) != name[i] {
+    for (i, a) in name.iter().enumerate() {
+        if letter(s[i], any_case) != *a {
             return false;
         }
-        i += 1;
     }
     true
 }
@@ -135,6 +104,7 @@ pub fn mixed(mask: u16, old: u16, value: u16) -> u16
 }
 
 // The mask of a bit, to be held to the manual's word drawings; 0 where a word has no such bit.
+#[tactic(auto, using(crate::proofs::Masks::mask_there))]
 pub fn bit_mask(b: usize) -> u16
     ensures { result ≡ bit_mask b }
 {
@@ -157,13 +127,4 @@ pub fn bit_mask(b: usize) -> u16
         15 => 0x8000,
         _ => 0,
     }
-}
-
-pub fn least(a: usize, b: usize) -> usize
-    ensures { result ≡ min a b }
-{
-    if a < b {
-        return a;
-    }
-    b
 }

@@ -1,59 +1,51 @@
-// The calls of the line protocol on addresses (module 3). The bytes of fields stand in `space`, the answer in `memory`.
-use crate::answers::Answer;
-use crate::lines::Args;
-use address::{Address, Maybe, Parsed, Reading};
-use address_dotted::Dotted;
+// The calls of the line protocol on addresses (module 3). The answer stands in `memory`.
+use crate::answers::{Answer, Answered, Text};
+use crate::lines::Call;
+use address::{Address, Reading};
+use std::fmt;
+use std::fmt::Write;
 
-// `tag TAG`, `dotted TAG`. A text is written to the first `room` bytes of `memory`.
-pub fn answer(a: Args, word: &[u8], space: &[u8], memory: &mut [u8]) -> Answer {
-    let tag = crate::lines::part(space, a, 0);
-    if text::is(word, b"tag") {
-        return parsed(a, tag, memory);
-    }
-    let n = text::within(a.room, memory);
-    match address_dotted::dotted(tag, &mut memory[..n]) {
-        Dotted::Refused(k) => Answer::Refused(k),
-        Dotted::Written(n) => Answer::Bytes(n),
-    }
+// `tag TAG`
+pub fn tag(call: Call<'_>, memory: &mut [u8]) -> Answered {
+    let x = address::parse_tag(call.bytes(0), reading(call))?;
+    let mut text = Text::new(memory);
+    let _ = shown(x, &mut text);
+    Ok(text.answer())
+}
+
+// `dotted TAG`. The text is written to the first `room` bytes of `memory`.
+pub fn dotted(call: Call<'_>, memory: &mut [u8]) -> Answered {
+    let n = call.room.min(memory.len());
+    let n = address_dotted::dotted(call.bytes(0), &mut memory[..n])?;
+    Ok(Answer::Bytes(n))
 }
 
 // `new` before a call: its tag is read as a new entry.
-pub fn reading(a: Args) -> Reading {
-    if a.new {
-        return Reading::New;
-    }
-    Reading::Stored
-}
-
-fn parsed(a: Args, tag: &[u8], memory: &mut [u8]) -> Answer {
-    match address::parse_tag(tag, reading(a)) {
-        Parsed::Refused(k) => Answer::Refused(k),
-        Parsed::Is(x) => Answer::Text(shown(x, memory)),
+pub fn reading(call: Call<'_>) -> Reading {
+    if call.new {
+        Reading::New
+    } else {
+        Reading::Stored
     }
 }
 
 // CODE file element position sub bit count keptlength
-fn shown(a: Address, memory: &mut [u8]) -> usize {
-    let t = a.file_type;
-    let b = crate::answers::put_code(memory, 0, b' ', t.code());
-    let c = crate::answers::put_number(memory, b, b' ', a.file_number as u64);
-    let d = crate::answers::put_number(memory, c, b' ', a.element_number as u64);
-    let position = a.pos_number;
-    let sub = a.sub_element;
-    let e = maybe(position, memory, d);
-    let f = maybe(sub, memory, e);
-    counts(a.bit, a.element_count, a.kept, memory, f)
+fn shown(x: Address, text: &mut Text<'_>) -> fmt::Result {
+    let code = x.file_type.code();
+    let file = x.file_number;
+    let element = x.element_number;
+    write!(text, " {code:02X} {file} {element}")?;
+    or_dash(x.pos_number, text)?;
+    or_dash(x.sub_element, text)?;
+    let bit = u8::from(x.bit);
+    let count = x.element_count;
+    let kept = x.kept;
+    write!(text, " {bit} {count} {kept}")
 }
 
-fn counts(bit: bool, count: u64, kept: usize, memory: &mut [u8], at: usize) -> usize {
-    let a = crate::answers::put_number(memory, at, b' ', bit as u64);
-    let b = crate::answers::put_number(memory, a, b' ', count);
-    crate::answers::put_number(memory, b, b' ', kept as u64)
-}
-
-fn maybe(m: Maybe, memory: &mut [u8], at: usize) -> usize {
-    match m {
-        Maybe::Missing => base::put_all(memory, at, b" -"),
-        Maybe::Is(n) => crate::answers::put_number(memory, at, b' ', n as u64),
+fn or_dash(n: Option<u16>, text: &mut Text<'_>) -> fmt::Result {
+    match n {
+        Some(n) => write!(text, " {n}"),
+        None => write!(text, " -"),
     }
 }

@@ -1,30 +1,56 @@
 // Answers of the line protocol (oracle/PROTOCOL.md), and text for them in lent memory.
-mod put;
+mod laid;
 mod said;
 
-use crate::output::Pending;
-pub use put::{put_byte_string, put_code, put_number, put_signed};
-use said::error;
-pub use said::{ok_bytes, refused};
+use crate::output::Output;
+use base::Refusal;
+pub use laid::Text;
 
-// Why a line is none of the protocol: a place among the words of `say_error`.
-pub const LINE: u8 = 1;
+// Why a line is none of the protocol.
+#[derive(Clone, Copy)]
+pub enum Fault {
+    Line,
+    Call,
+    Fields,
+    Kind,
+    Hex,
+    Number,
+}
 
-pub const CALL: u8 = 2;
+impl Fault {
+    pub fn word(self) -> &'static str {
+        match self {
+            Fault::Line => "line",
+            Fault::Call => "call",
+            Fault::Fields => "fields",
+            Fault::Kind => "kind",
+            Fault::Hex => "hex",
+            Fault::Number => "number",
+        }
+    }
+}
 
-pub const FIELDS: u8 = 3;
+// Why a line has no answer.
+#[derive(Clone, Copy)]
+pub enum Failure {
+    Fault(Fault),
+    Refused(Refusal),
+}
 
-pub const KIND: u8 = 4;
+impl From<Fault> for Failure {
+    fn from(fault: Fault) -> Failure {
+        Failure::Fault(fault)
+    }
+}
 
-pub const HEX: u8 = 5;
-
-pub const NUMBER: u8 = 6;
+impl From<Refusal> for Failure {
+    fn from(refusal: Refusal) -> Failure {
+        Failure::Refused(refusal)
+    }
+}
 
 #[derive(Clone, Copy)]
 pub enum Answer {
-    // The line is none of the protocol.
-    Error(u8),
-    Refused(u8),
     Done,
     Nothing,
     // So many bytes at the memory's start; so many bytes of text there, which begins with its blank.
@@ -32,30 +58,21 @@ pub enum Answer {
     Text(usize),
 }
 
-fn say_error(rt: &impl Print, why: u8, out: &mut [u8], p: Pending) -> Pending {
-    let words = b"- line call fields kind hex number";
-    crate::answers::error(rt, out, p, text::field(words, why as usize))
-}
+pub type Answered = Result<Answer, Failure>;
 
-fn say_text(rt: &impl Print, text: &[u8], out: &mut [u8], p: Pending) -> Pending {
-    let a = crate::output::plain(rt, out, p, b"ok");
-    let b = crate::output::plain(rt, out, a, text);
-    crate::output::plain(rt, out, b, b"\n")
+// The first bytes of a memory, as far as it goes.
+fn first(n: usize, memory: &[u8]) -> &[u8] {
+    &memory[..n.min(memory.len())]
 }
 
 // An answer whose bytes or text stand in `memory`.
-pub fn say(rt: &impl Print, answer: Answer, memory: &[u8], out: &mut [u8], p: Pending) -> Pending {
-    match answer {
-        Answer::Error(why) => say_error(rt, why, out, p),
-        Answer::Refused(n) => crate::answers::refused(rt, out, p, n),
-        Answer::Done => crate::output::plain(rt, out, p, b"ok\n"),
-        Answer::Nothing => crate::output::plain(rt, out, p, b"ok none\n"),
-        Answer::Bytes(n) => crate::answers::ok_bytes(
-            rt,
-            out,
-            p,
-            &memory[..text::within(n, memory)],
-        ),
-        Answer::Text(n) => say_text(rt, &memory[..text::within(n, memory)], out, p),
+pub fn say<R: Print>(out: &mut Output<'_, R>, answered: Answered, memory: &[u8]) {
+    match answered {
+        Err(Failure::Fault(fault)) => out.error(fault.word().as_bytes()),
+        Err(Failure::Refused(refusal)) => out.refused(refusal),
+        Ok(Answer::Done) => out.plain(b"ok\n"),
+        Ok(Answer::Nothing) => out.plain(b"ok none\n"),
+        Ok(Answer::Bytes(n)) => out.ok_bytes(first(n, memory)),
+        Ok(Answer::Text(n)) => out.ok_text(first(n, memory)),
     }
 }

@@ -1,74 +1,48 @@
-// The calls of the line protocol on the bytes of one element (module 2); and values as fields give them and answers show them. The bytes of
-// fields stand in `space`, the answer in `memory`.
-pub mod shown;
+// The calls of the line protocol on the bytes of one element (module 2); and values as fields give them and answers show them. The answer stands
+// in `memory`.
+mod shown;
 
-use crate::answers::Answer;
-use crate::lines::Args;
-use element_spec::{Stored, Value};
-use file_type::{FileType, Known};
+use crate::answers::{Answer, Answered, Text};
+use crate::lines::{Call, Kind};
+use base::Refusal;
+use element_spec::{Element, Value};
+use file_type::FileType;
 
-// `dec CODE BYTES`, `enc CODE BYTES KIND VALUE`. The output of a text that is read has `room` bytes.
-pub fn answer(a: Args, word: &[u8], space: &[u8], memory: &mut [u8]) -> Answer {
-    match FileType::from_code(crate::lines::byte(a, 0)) {
-        Known::Unknown => Answer::Refused(19),
-        Known::Is(t) => of_type(t, a, word, space, memory),
-    }
+fn type_of(call: Call<'_>) -> Result<FileType, Refusal> {
+    FileType::from_code(call.byte(0)).ok_or(Refusal::NoSuchElement)
 }
 
-fn of_type(t: FileType, a: Args, word: &[u8], space: &[u8], memory: &mut [u8]) -> Answer {
-    if text::is(word, b"dec") {
-        return decoded(t, crate::lines::part(space, a, 1), a.room, memory);
-    }
-    encoded(t, a, space, memory)
-}
-
-fn decoded(t: FileType, element: &[u8], room: usize, memory: &mut [u8]) -> Answer {
+// `dec CODE BYTES`. The output of a text that is read has `room` bytes.
+pub fn decoded(call: Call<'_>, memory: &mut [u8]) -> Answered {
+    let t = type_of(call)?;
     let mut text = [0u8; 128];
-    decoded_in(t, element, room, &mut text, memory)
+    let n = call.room.min(text.len());
+    let e = element_decode::decode_element(t, call.bytes(1), &mut text[..n])?;
+    Ok(as_shown(t, e, &text, memory))
 }
 
-fn decoded_in(
-    t: FileType,
-    element: &[u8],
-    room: usize,
-    text: &mut [u8],
-    memory: &mut [u8],
-) -> Answer {
-    let n = text::within(room, text);
-    let e = element_decode::decode_element(t, element, &mut text[..n]);
-    shown::element(t, e, text, memory)
+// An element, whose text stands in `characters`.
+pub fn as_shown(t: FileType, e: Element, characters: &[u8], memory: &mut [u8]) -> Answer {
+    let mut text = Text::new(memory);
+    let _ = shown::element(t, e, characters, &mut text);
+    text.answer()
 }
 
 // The value of the fields KIND VALUE: `int N`, `float BITS`, `words A,B,C`, `text BYTES`, `field NAME N`.
-pub fn value_of(a: Args) -> Value {
-    let w = a.whole;
-    if a.kind == 1 {
-        return Value::Whole(w[0]);
+pub fn value_of(call: Call<'_>) -> Value {
+    match call.kind {
+        Some(Kind::Int) => Value::Whole(call.signed(0)),
+        Some(Kind::Float) => Value::Float(call.float()),
+        Some(Kind::Words) => Value::Words(call.signed(0), call.signed(1), call.signed(2)),
+        Some(Kind::Text) => Value::Text,
+        _ => Value::Field(call.signed(0)),
     }
-    if a.kind == 2 {
-        return Value::Float(a.bits);
-    }
-    if a.kind == 3 {
-        return Value::Words(w[0], w[1], w[2]);
-    }
-    if a.kind == 4 {
-        return Value::Text;
-    }
-    Value::Field(w[0])
 }
 
-fn encoded(t: FileType, a: Args, space: &[u8], memory: &mut [u8]) -> Answer {
-    let n = text::within(
-        base::put_all(memory, 0, crate::lines::part(space, a, 1)),
-        memory,
-    );
-    match element_encode::encode_element(
-        t,
-        value_of(a),
-        crate::lines::part(space, a, 3),
-        &mut memory[..n],
-    ) {
-        Stored::Refused(k) => Answer::Refused(k),
-        Stored::Done => Answer::Bytes(n),
-    }
+// `enc CODE BYTES KIND VALUE`
+pub fn encoded(call: Call<'_>, memory: &mut [u8]) -> Answered {
+    let t = type_of(call)?;
+    let n = base::put_all(memory, 0, call.bytes(1)).min(memory.len());
+    element_encode::encode_element(t, value_of(call), call.bytes(3), &mut memory[..n])?;
+    Ok(Answer::Bytes(n))
 }

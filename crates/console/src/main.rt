@@ -5,6 +5,7 @@ mod addresses;
 mod answers;
 mod directories;
 mod elements;
+mod input;
 mod lines;
 mod output;
 mod processors;
@@ -13,306 +14,136 @@ mod requests;
 mod test_aids;
 mod types;
 
-ghost use Rattle.std.specs.Prelude.{◌<◌, ◌≤◌, length};
-
-use crate::answers::Answer;
-use crate::lines::{Area, Args};
-use crate::output::Pending;
+use crate::answers::{Answered, Fault};
+use crate::input::Line;
+use crate::lines::{Call, Name};
+use crate::output::Output;
+use crate::processors::plc::Plc;
 use std::io::Read;
 
-// The answer to a call, whose line is this. The bytes of its fields stand in `space`, the answer in `memory`, the simulated processor in `store`.
-fn call(a: Args, line: &[u8], space: &[u8], memory: &mut [u8], store: &mut [u8]) -> Answer {
-    let word = text::field(line, 0);
-    let area = a.area;
-    match area {
-        Area::Build => crate::processors::build(a, line, space, memory, store),
-        Area::Processor => crate::processors::answer(a, word, space, memory, store),
-        Area::TestAid => crate::test_aids::answer(a, word, space, memory, store),
-        _ => without_processor(a, word, space, memory),
+// What calls work on: the bytes of a line's fields, the text or the bytes of an answer, and the simulated processor.
+#[derive(Drop)]
+struct Desk {
+    space: [u8; 131072],
+    memory: [u8; 262144],
+    plc: Plc,
+}
+
+// The calls that ask the processor.
+fn of_processor(call: Call<'_>, memory: &mut [u8], plc: &mut Plc) -> Answered {
+    match call.name {
+        Name::Sim => crate::processors::build(call, memory, plc),
+        Name::Cmd => crate::processors::command(call, memory, plc),
+        Name::Get => crate::processors::get(call, memory, plc),
+        Name::Set => crate::processors::set(call, plc),
+        Name::Directory => crate::processors::directory(memory, plc),
+        Name::Fill => crate::test_aids::fill(call, plc),
+        Name::Spoil => crate::test_aids::spoil(call, plc),
+        Name::Dump => crate::test_aids::dump(memory, plc),
+        Name::Hash => crate::test_aids::hash(memory, plc),
+        _ => of_texts(call, memory),
     }
 }
 
-// The calls that ask no processor.
-fn without_processor(a: Args, word: &[u8], space: &[u8], memory: &mut [u8]) -> Answer {
-    let area = a.area;
-    match area {
-        Area::Address => crate::addresses::answer(a, word, space, memory),
-        Area::Type => crate::types::answer(a, word, space, memory),
-        Area::Element => crate::elements::answer(a, word, space, memory),
-        _ => on_messages(a, word, space, memory),
+// The calls on file types, elements and replies.
+fn of_texts(call: Call<'_>, memory: &mut [u8]) -> Answered {
+    match call.name {
+        Name::Ft => crate::types::by_code(call, memory),
+        Name::FtName => crate::types::by_name(call, memory),
+        Name::SimFt => crate::types::simulated(call, memory),
+        Name::Swap => crate::types::swapped(call, memory),
+        Name::Pairs => crate::types::pairs(call, memory),
+        Name::Ascii => crate::types::ascii(call, memory),
+        Name::String => crate::types::string(call, memory),
+        Name::Dec => crate::elements::decoded(call, memory),
+        Name::Enc => crate::elements::encoded(call, memory),
+        Name::Status => crate::replies::status(call, memory),
+        Name::ErrText => crate::replies::error_text(call, memory),
+        Name::DatalogParse => crate::replies::datalog(call, memory),
+        _ => of_requests(call, memory),
     }
 }
 
-fn on_messages(a: Args, word: &[u8], space: &[u8], memory: &mut [u8]) -> Answer {
-    let area = a.area;
-    match area {
-        Area::Request => crate::requests::answer(a, word, space, memory),
-        Area::Reply => crate::replies::answer(a, word, space, memory),
-        Area::Directory => crate::directories::answer(a, word, space, memory),
-        _ => Answer::Error(crate::answers::CALL),
+// The calls on addresses, requests and the file directory.
+fn of_requests(call: Call<'_>, memory: &mut [u8]) -> Answered {
+    match call.name {
+        Name::Tag => crate::addresses::tag(call, memory),
+        Name::Dotted => crate::addresses::dotted(call, memory),
+        Name::Read => crate::requests::read(call, memory),
+        Name::Write => crate::requests::write(call, memory),
+        Name::Proc => crate::requests::processor_type(call, memory),
+        Name::DatalogReq => crate::requests::datalog(call, memory),
+        Name::DirSizeReq => crate::requests::directory_size(call, memory),
+        Name::DirReadReq => crate::requests::directory_read(call, memory),
+        Name::Sys0 => crate::directories::sys0(call, memory),
+        Name::DirSize => crate::directories::size(call, memory),
+        _ => Err(Fault::Call.into()),
     }
-}
-
-// Empty lines and lines that begin with `#` are echoed.
-fn is_echoed(line: &[u8]) -> bool {
-    if line.len() == 0 {
-        return true;
-    }
-    line[0] == b'#'
-}
-
-fn echo(rt: &impl Print, line: &[u8], out: &mut [u8], p: Pending) -> Pending {
-    let q = crate::output::plain(rt, out, p, line);
-    crate::output::plain(rt, out, q, b"\n")
 }
 
 // The answer to a line that is no comment.
-fn reply(
-    rt: &impl Print,
-    line: &[u8],
-    space: &mut [u8],
-    memory: &mut [u8],
-    store: &mut [u8],
-    out: &mut [u8],
-    p: Pending,
-) -> Pending {
-    let a = crate::lines::read(line, space);
-    if a.why != 0 {
-        return crate::answers::say(rt, Answer::Error(a.why), memory, out, p);
-    }
-    let area = a.area;
-    match area {
-        Area::Listing => crate::directories::say_dir(rt, a, space, out, p),
-        _ => {
-            let n = text::within(a.start, line);
-            let answer = call(a, &line[n..], space, memory, store);
-            crate::answers::say(rt, answer, memory, out, p)
+fn reply<R: Print>(line: &[u8], desk: &mut Desk, out: &mut Output<'_, R>) {
+    match crate::lines::read(line, &mut desk.space) {
+        Err(fault) => out.error(fault.word().as_bytes()),
+        Ok(call) if call.name == Name::Dir => crate::directories::say_dir(out, call),
+        Ok(call) => {
+            let answered = of_processor(call, &mut desk.memory, &mut desk.plc);
+            crate::answers::say(out, answered, &desk.memory);
         }
     }
 }
 
-// The answer to a line, which is the first `kept` bytes; where it fills the memory that lines have, it was longer than a line may be.
-fn answer_line(
-    rt: &impl Print,
-    line: &[u8],
-    kept: usize,
-    space: &mut [u8],
-    memory: &mut [u8],
-    store: &mut [u8],
-    out: &mut [u8],
-    p: Pending,
-) -> Pending {
-    if line.len() <= kept {
-        return crate::answers::say(rt, Answer::Error(crate::answers::LINE), memory, out, p);
-    }
-    let n = text::within(kept, line);
-    if is_echoed(&line[..n]) {
-        return echo(rt, &line[..n], out, p);
-    }
-    reply(rt, &line[..n], space, memory, store, out, p)
-}
-
-// The place in the input, how many bytes of the line are kept, and whether the line has ended.
-#[derive(Clone, Copy)]
-struct Taken {
-    at: usize,
-    kept: usize,
-    ended: bool,
-}
-
-// Bytes of the input into the line, up to a newline. What does not fit is left out.
-fn take_line(input: &[u8], at: usize, line: &mut [u8], kept: usize) -> Taken
-    requires { (at < length input.now) × (kept ≤ length line.old) }
-    ensures { (at < result.at) × (result.at ≤ length input.now) × (result.kept ≤ length line.old) }
-{
-    let mut i = at;
-    let mut k = kept;
-    while i < input.len() {
-        let b = input[i];
-        i += 1;
-        if b == 10 {
-            return Taken {
-                at: i,
-                kept: k,
-                ended: true,
-            };
+// The answer to a line. Empty lines and lines that begin with `#` are echoed.
+fn answer_line<R: Print>(line: &Line, desk: &mut Desk, out: &mut Output<'_, R>) {
+    match line.bytes() {
+        None => out.error(Fault::Line.word().as_bytes()),
+        Some(bytes) if matches!(bytes, [] | [b'#', ..]) => {
+            out.plain(bytes);
+            out.plain(b"\n");
         }
-        k = keep(line, k, b);
-    }
-    Taken {
-        at: i,
-        kept: k,
-        ended: false,
-    }
-}
-
-fn keep(line: &mut [u8], k: usize, b: u8) -> usize
-    requires { k ≤ length line.old }
-    ensures { result ≤ length line.old }
-{
-    if k < line.len() {
-        line[k] = b;
-        return k + 1;
-    }
-    k
-}
-
-// How many bytes of a line wait for the rest of it, and what was said.
-#[derive(Clone, Copy)]
-struct State {
-    kept: usize,
-    said: Pending,
-}
-
-// Answers a line that has ended.
-fn ended(
-    rt: &impl Print,
-    line: &[u8],
-    t: Taken,
-    space: &mut [u8],
-    memory: &mut [u8],
-    store: &mut [u8],
-    out: &mut [u8],
-    p: Pending,
-) -> State
-    requires { t.kept ≤ length line.now }
-    ensures { result.kept ≤ length line.now }
-{
-    if !t.ended {
-        return State {
-            kept: t.kept,
-            said: p,
-        };
-    }
-    State {
-        kept: 0,
-        said: answer_line(rt, line, t.kept, space, memory, store, out, p),
+        Some(bytes) => reply(bytes, desk, out),
     }
 }
 
 // Answers all lines that end in what was read.
-fn answer_all(
-    rt: &impl Print,
-    input: &[u8],
-    line: &mut [u8],
-    s: State,
-    space: &mut [u8],
-    memory: &mut [u8],
-    store: &mut [u8],
-    out: &mut [u8],
-) -> State
-    requires { s.kept ≤ length line.old }
-    ensures { result.kept ≤ length line.old }
-{
-    let mut at = 0;
-    let mut state = s;
-    while at < input.len() {
-        let t = take_line(input, at, line, state.kept);
-        at = t.at;
-        state = ended(rt, line, t, space, memory, store, out, state.said);
-    }
-    state
-}
-
-#[derive(Clone, Copy)]
-struct Went {
-    state: State,
-    open: bool,
-}
-
-// Reads once, answers, and writes out what was said; at the end of input, and where a read fails, the last line is answered.
-fn turn(
-    rt: &impl Print,
-    from: &mut impl Read,
-    input: &mut [u8],
-    line: &mut [u8],
-    s: State,
-    space: &mut [u8],
-    memory: &mut [u8],
-    store: &mut [u8],
-    out: &mut [u8],
-) -> Went
-    requires { s.kept ≤ length line.old }
-    ensures { result.state.kept ≤ length line.old }
-{
-    match from.read(input) {
-        Err(_) | Ok(0) => {
-            finish(rt, line, s, space, memory, store, out);
-            Went {
-                state: s,
-                open: false,
-            }
-        }
-        Ok(n) => {
-            let t = answer_all(rt, &input[..n], line, s, space, memory, store, out);
-            let q = crate::output::flush(rt, out, t.said);
-            Went {
-                state: State {
-                    kept: t.kept,
-                    said: q,
-                },
-                open: q.good,
-            }
+fn answer_all<R: Print>(input: &[u8], line: &mut Line, desk: &mut Desk, out: &mut Output<'_, R>) {
+    for b in input {
+        if *b == b'\n' {
+            answer_line(line, desk, out);
+            line.clear();
+        } else {
+            line.keep(*b);
         }
     }
 }
 
-// The last line, where it has no newline.
-fn finish(
-    rt: &impl Print,
-    line: &[u8],
-    s: State,
-    space: &mut [u8],
-    memory: &mut [u8],
-    store: &mut [u8],
-    out: &mut [u8],
-) {
-    if s.kept == 0 {
-        return;
-    }
-    let q = answer_line(rt, line, s.kept, space, memory, store, out, s.said);
-    crate::output::flush(rt, out, q);
-}
-
-fn answer_input(
-    rt: &impl Print,
-    from: &mut impl Read,
-    input: &mut [u8],
-    line: &mut [u8],
-    space: &mut [u8],
-    memory: &mut [u8],
-    store: &mut [u8],
-    out: &mut [u8],
-) {
-    let mut s = State {
-        kept: 0,
-        said: crate::output::start(),
-    };
+// At the end of input, and where a read fails, the last line is answered, where it has no newline.
+fn answer_input<R: Print>(from: &mut impl Read, desk: &mut Desk, out: &mut Output<'_, R>) {
+    let mut input = [0u8; 65536];
+    let mut line = Line::new();
     for _ in 0..u64::MAX {
-        let after = turn(rt, from, input, line, s, space, memory, store, out);
-        s = after.state;
-        if !after.open {
+        match from.read(&mut input) {
+            Err(_) | Ok(0) => {
+                if !line.is_empty() {
+                    answer_line(&line, desk, out);
+                    out.flush();
+                }
+                return;
+            }
+            Ok(n) => answer_all(&input[..n], &mut line, desk, out),
+        }
+        out.flush();
+        if !out.good() {
             return;
         }
     }
 }
 
 fn main(rt: HostRuntime) {
-    let mut input = [0u8; 65536];
-    let mut line = [0u8; 262145];
-    // The bytes of the fields of a line.
-    let mut space = [0u8; 131072];
-    let mut memory = [0u8; 262144];
-    let mut store = [0u8; 83848];
-    let mut out = [0u8; 65536];
-    answer_input(
-        &rt,
-        &mut rt.stdin(),
-        &mut input,
-        &mut line,
-        &mut space,
-        &mut memory,
-        &mut store,
-        &mut out,
-    );
+    let mut desk = Desk {
+        space: [0; 131072],
+        memory: [0; 262144],
+        plc: Plc::new(),
+    };
+    answer_input(&mut rt.stdin(), &mut desk, &mut Output::new(&rt));
 }

@@ -1,6 +1,6 @@
-// Text for standard output, through a buffer that the caller lends. Where there is no room, what waits is written out first, and what is
-// longer than the buffer is written straight away: nothing that is said is ever cut. No function has a `requires`.
-ghost use Rattle.std.specs.Prelude.{◌≡◌, true, false, [], ◌+◌, ◌<◌, ◌≤◌, length, take};
+// Text for standard output, through a buffer. Where there is no room, what waits is written out first, and what is longer than the buffer is
+// written straight away: nothing that is said is ever cut. No function has a `requires`.
+ghost use Rattle.std.specs.Prelude.{◌≡◌, true, false, [], ◌∷◌, ◌+◌, ◌<◌, length};
 ghost use Rattle.text.specs.Hex.{hex as hex_hex};
 ghost use Rattle.decimal.specs.Decimals.{decimal};
 ghost use Rattle.console.specs.Said.{Said};
@@ -12,108 +12,100 @@ pub struct Pending {
     pub good: bool,
 }
 
-// Nothing waits yet.
-pub fn start() -> Pending
-    ensures { (result.at ≡ 0) × (result.good ≡ true) }
-{
-    Pending { at: 0, good: true }
+#[derive(Drop)]
+pub struct Output<'a, R> {
+    rt: &'a R,
+    pub bytes: [u8; 65536],
+    pub pending: Pending,
+    ghost full: { length bytes ≡ 65536 },
 }
 
 // Writes bytes out.
 fn write(rt: &impl Print, good: bool, bytes: &[u8]) -> bool
     ensures { good ≡ false → result ≡ false }
 {
-    if good {
-        return rt.write_all(bytes).is_ok();
-    }
-    false
+    good && rt.write_all(bytes).is_ok()
 }
 
-// Writes out what waits.
-pub fn flush(rt: &impl Print, out: &[u8], p: Pending) -> Pending
-    ensures { (result.at ≡ 0) × (p.good ≡ false → result.good ≡ false) }
-{
-    let n = text::within(p.at, out);
-    Pending {
-        at: 0,
-        good: write(rt, p.good, &out[..n]),
+impl<'a, R: Print> Output<'a, R> {
+    // Nothing waits yet.
+    pub fn new(rt: &'a R) -> Output<'a, R>
+        ensures { (result.pending.at ≡ 0) × (result.pending.good ≡ true) }
+    {
+        Output {
+            rt,
+            bytes: [0; 65536],
+            pending: Pending { at: 0, good: true },
+        }
     }
-}
 
-// Bytes for which there is no room behind what waits.
-fn say_anew(rt: &impl Print, out: &mut [u8], p: Pending, bytes: &[u8]) -> Pending
-    requires { length out.old < p.at + length bytes.now }
-    ensures { Said out.old p bytes.now result out.new }
-{
-    let q = flush(rt, out, p);
-    let good = q.good;
-    if bytes.len() <= out.len() {
-        return Pending {
-            at: base::put_all(out, 0, bytes),
-            good,
+    // Has no write failed so far?
+    pub fn good(&self) -> bool
+        ensures { result ≡ self.now.pending.good }
+    {
+        self.pending.good
+    }
+
+    // Writes out what waits.
+    pub fn flush(&mut self)
+        ensures { (self.new.pending.at ≡ 0) × (self.old.pending.good ≡ false → self.new.pending.good ≡ false) × (self.new.bytes ≡ self.old.bytes) }
+    {
+        let n = self.pending.at.min(self.bytes.len());
+        self.pending = Pending {
+            at: 0,
+            good: write(self.rt, self.pending.good, &self.bytes[..n]),
         };
     }
-    Pending {
-        at: 0,
-        good: write(rt, good, bytes),
-    }
-}
 
-// Bytes as they are.
-pub fn plain(rt: &impl Print, out: &mut [u8], p: Pending, bytes: &[u8]) -> Pending
-    ensures { Said out.old p bytes.now result out.new }
-{
-    let at = p.at;
-    if out.len() < at {
-        return say_anew(rt, out, p, bytes);
+    // Bytes for which there is no room behind what waits.
+    #[tactic(auto, using(crate::proofs::output::Saying::said_straight))]
+    fn say_anew(&mut self, bytes: &[u8])
+        requires { length self.old.bytes < self.old.pending.at + length bytes.now }
+        ensures { Said self.old.bytes self.old.pending bytes.now self.new.pending self.new.bytes }
+    {
+        self.flush();
+        if bytes.len() <= self.bytes.len() {
+            self.pending.at = base::put_all(&mut self.bytes, 0, bytes);
+        } else {
+            self.pending.good = write(self.rt, self.pending.good, bytes);
+        }
     }
-    if out.len() - at < bytes.len() {
-        return say_anew(rt, out, p, bytes);
-    }
-    Pending {
-        at: base::put_all(out, at, bytes),
-        good: p.good,
-    }
-}
 
-fn hex_piece(rt: &impl Print, out: &mut [u8], p: Pending, bytes: &[u8]) -> Pending
-    requires { length bytes.now ≤ 256 }
-    ensures { Said out.old p (hex_hex bytes.now) result out.new }
-{
-    let mut digits = [0u8; 512];
-    let n = text::put_hex(&mut digits, 0, bytes);
-    plain(rt, out, p, &digits[..n])
-}
-
-// Where the next piece ends.
-fn piece_end(i: usize, end: usize) -> usize
-    requires { i < end }
-    ensures { (i < result) × (result ≤ i + 256) × (result ≤ end) }
-{
-    if end - i < 256 {
-        return end;
+    // Bytes as they are.
+    pub fn plain(&mut self, bytes: &[u8])
+        ensures { Said self.old.bytes self.old.pending bytes.now self.new.pending self.new.bytes }
+    {
+        let at = self.pending.at;
+        if self.bytes.len() < at || self.bytes.len() - at < bytes.len() {
+            self.say_anew(bytes);
+        } else {
+            self.pending.at = base::put_all(&mut self.bytes, at, bytes);
+        }
     }
-    i + 256
-}
 
-// Two digits for each byte.
-pub fn hex(rt: &impl Print, out: &mut [u8], p: Pending, bytes: &[u8]) -> Pending
-    ensures { Said out.old p (hex_hex bytes.now) result out.new }
-{
-    let mut q = plain(rt, out, p, b"");
-    let mut i = 0;
-    while i < bytes.len() {
-        let j = piece_end(i, bytes.len());
-        q = hex_piece(rt, out, q, &bytes[i..j]);
-        i = j;
+    // Two digits for each byte.
+    pub fn hex(&mut self, bytes: &[u8])
+        ensures { Said self.old.bytes self.old.pending (hex_hex bytes.now) self.new.pending self.new.bytes }
+    {
+        self.plain(b"");
+        for b in bytes {
+            self.hex_byte(*b);
+        }
     }
-    q
-}
 
-pub fn number(rt: &impl Print, out: &mut [u8], p: Pending, n: u64) -> Pending
-    ensures { Said out.old p (decimal n) result out.new }
-{
-    let mut digits = [0u8; 20];
-    let k = decimal::put_decimal(&mut digits, 0, n);
-    plain(rt, out, p, &digits[..k])
+    fn hex_byte(&mut self, b: u8)
+        ensures { Said self.old.bytes self.old.pending (hex_hex (b ∷ [])) self.new.pending self.new.bytes }
+    {
+        let mut digits = [0u8; 2];
+        let n = text::put_hex(&mut digits, 0, &[b]);
+        self.plain(&digits[..n]);
+    }
+
+    pub fn number(&mut self, n: u64)
+        ensures { Said self.old.bytes self.old.pending (decimal n) self.new.pending self.new.bytes }
+    {
+        let mut digits = [0u8; 20];
+        let k = decimal::put_decimal(&mut digits, 0, n);
+        self.plain(&digits[..k]);
+    }
 }

@@ -1,61 +1,56 @@
-// The calls of the line protocol that ask the simulated processor (module 6), whose plain data stands in `store`. The bytes of fields
-// stand in `space`, the answer in `memory`.
+// The calls of the line protocol that ask the simulated processor (module 6). The answer stands in `memory`.
+mod built;
+mod image;
 mod lists;
-mod new;
-mod simulated;
-pub mod store;
+pub mod plc;
 mod whole_directory;
 
-use crate::answers::Answer;
-use crate::elements::shown;
-use crate::lines::Args;
-use element_spec::Stored;
-pub use new::build;
+use crate::answers::{Answer, Answered};
+use crate::lines::Call;
+use crate::processors::plc::Plc;
+pub use built::build;
+use file_type::FileType;
 use processor_element_core::{Setting, Spot};
-use processor_spec::Answered;
+pub use whole_directory::directory;
 
-// `cmd BYTES`, `get CODE NUMBER ELEMENT`, `set CODE NUMBER ELEMENT KIND VALUE`, `directory`. The output of a reply, or of a text that is
-// read, has `room` bytes.
-pub fn answer(a: Args, word: &[u8], space: &[u8], memory: &mut [u8], store: &mut [u8]) -> Answer {
-    if text::is(word, b"cmd") {
-        return cmd(crate::lines::part(space, a, 0), a.room, memory, store);
-    }
-    if text::is(word, b"get") {
-        return get(simulated::spot(a), a.room, memory, store);
-    }
-    if text::is(word, b"set") {
-        return set(
-            simulated::setting(a),
-            crate::lines::part(space, a, 4),
-            store,
-        );
-    }
-    whole_directory::answer(memory, store)
+// `cmd BYTES`. The output of a reply has `room` bytes.
+pub fn command(call: Call<'_>, memory: &mut [u8], plc: &mut Plc) -> Answered {
+    let room = call.room.min(memory.len());
+    let n = plc.obey(call.bytes(0), &mut memory[..room])?;
+    Ok(Answer::Bytes(n))
 }
 
-fn cmd(command: &[u8], room: usize, memory: &mut [u8], store: &mut [u8]) -> Answer {
-    let n = text::within(room, memory);
-    match simulated::obeyed(command, &mut memory[..n], store) {
-        Answered::Refused(k) => Answer::Refused(k),
-        Answered::Reply(m) => Answer::Bytes(m),
-    }
+// Of a code that is none, a type that no file has: 19 comes after 16.
+fn type_of(call: Call<'_>) -> FileType {
+    FileType::from_code(call.byte(0)).unwrap_or(FileType::MG)
 }
 
-fn get(w: Spot, room: usize, memory: &mut [u8], store: &[u8]) -> Answer {
+fn number_of(call: Call<'_>) -> u16 {
+    u16::try_from(call.number(1)).unwrap_or(u16::MAX)
+}
+
+// `get CODE NUMBER ELEMENT`. The output of a text that is read has `room` bytes.
+pub fn get(call: Call<'_>, memory: &mut [u8], plc: &Plc) -> Answered {
+    let t = type_of(call);
+    let spot = Spot {
+        number: number_of(call),
+        file_type: t,
+        element: call.number(2) as usize,
+    };
     let mut text = [0u8; 128];
-    get_in(w, room, &mut text, memory, store)
+    let room = call.room.min(text.len());
+    let e = plc.element(spot, &mut text[..room])?;
+    Ok(crate::elements::as_shown(t, e, &text, memory))
 }
 
-fn get_in(w: Spot, room: usize, text: &mut [u8], memory: &mut [u8], store: &[u8]) -> Answer {
-    let t = w.file_type;
-    let n = text::within(room, text);
-    let e = simulated::element(w, &mut text[..n], store);
-    shown::element(t, e, text, memory)
-}
-
-fn set(w: Setting, text: &[u8], store: &mut [u8]) -> Answer {
-    match simulated::stored(w, text, store) {
-        Stored::Refused(k) => Answer::Refused(k),
-        Stored::Done => Answer::Done,
-    }
+// `set CODE NUMBER ELEMENT KIND VALUE`
+pub fn set(call: Call<'_>, plc: &mut Plc) -> Answered {
+    let setting = Setting {
+        number: number_of(call),
+        file_type: type_of(call),
+        element: call.number(2) as usize,
+        value: crate::elements::value_of(call),
+    };
+    plc.set(setting, call.bytes(4))?;
+    Ok(Answer::Done)
 }

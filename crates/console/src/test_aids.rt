@@ -1,37 +1,63 @@
-// The calls of the line protocol on the plain data of the simulated processor, which stands in `store` (module 6). The bytes of fields stand in
-// `space`, the answer in `memory`.
-mod dump;
-mod fill;
-mod hash;
-mod spoil;
+// The calls of the line protocol on the plain data of the simulated processor (module 6). The answer stands in `memory`.
+mod dumped;
+mod spoiled;
 
-use crate::answers::Answer;
-use crate::lines::Args;
+use crate::answers::{Answer, Answered, Text};
+use crate::lines::Call;
+use crate::processors::plc::Plc;
+use base::Refusal;
+use processor_spec::FileRecord;
+pub use spoiled::spoil;
+use std::fmt::Write;
 
-// `fill NUMBER BYTES`, `spoil KIND ..`, `dump`, `hash`
-pub fn answer(a: Args, word: &[u8], space: &[u8], memory: &mut [u8], store: &mut [u8]) -> Answer {
-    if text::is(word, b"spoil") {
-        spoil::keep(a, store);
-        return Answer::Done;
+// The records in use: without any there is no processor.
+fn files(plc: &Plc) -> Result<&[FileRecord], Refusal> {
+    let files = plc.files();
+    if files.is_empty() {
+        return Err(Refusal::Unsound);
     }
-    let n = crate::processors::store::files(store);
-    if n == 0 {
-        return Answer::Refused(16);
-    }
-    if text::is(word, b"fill") {
-        return fill::filled(
-            n,
-            crate::lines::number(a, 0),
-            crate::lines::part(space, a, 1),
-            store,
-        );
-    }
-    shown(word, n, memory, store)
+    Ok(files)
 }
 
-fn shown(word: &[u8], n: u16, memory: &mut [u8], store: &[u8]) -> Answer {
-    if text::is(word, b"dump") {
-        return Answer::Text(dump::shown(n, memory, store));
+// `fill NUMBER BYTES`: sets all bytes of a file. 19 where no file has this number and as many bytes.
+pub fn fill(call: Call<'_>, plc: &mut Plc) -> Answered {
+    let number = call.number(0);
+    let bytes = call.bytes(1);
+    let place = files(plc)?
+        .iter()
+        .find(|r| u64::from(r.number) == number && usize::from(r.length) == bytes.len())
+        .ok_or(Refusal::NoSuchElement)?;
+    let start = usize::from(place.start);
+    let mut image = plc.image();
+    base::put_all(&mut image, start, bytes);
+    plc.keep(&image);
+    Ok(Answer::Done)
+}
+
+// `dump`: n number:CODE:BYTES .. log k ENTRY ..
+pub fn dump(memory: &mut [u8], plc: &Plc) -> Answered {
+    let files = files(plc)?;
+    let mut text = Text::new(memory);
+    let _ = dumped::shown(files, plc, &mut text);
+    Ok(text.answer())
+}
+
+// `hash`: H k, FNV-1a (64 bits) of all file bytes in ascending file order, and how many datalog entries are left
+pub fn hash(memory: &mut [u8], plc: &Plc) -> Answered {
+    let mut text = Text::new(memory);
+    // The files lie end to end from 0 on.
+    if let Some(last) = files(plc)?.last() {
+        let end = usize::from(last.start).saturating_add(usize::from(last.length));
+        let image = plc.image();
+        let h = fnv(&image[..end.min(image.len())]);
+        let left = plc.slc.log_left;
+        let _ = write!(text, " {h:016X} {left}");
     }
-    Answer::Text(hash::shown(n, memory, store))
+    Ok(text.answer())
+}
+
+fn fnv(bytes: &[u8]) -> u64 {
+    bytes.iter().fold(0xCBF2_9CE4_8422_2325, |h: u64, b| {
+        (h ^ u64::from(*b)).wrapping_mul(0x100_0000_01B3)
+    })
 }

@@ -1,63 +1,62 @@
-// The calls of the line protocol on file types and texts (modules 1 and 2). The bytes of fields stand in `space`, the answer in `memory`.
+// The calls of the line protocol on file types and texts (modules 1 and 2). The answer stands in `memory`.
 mod shown;
 
-use crate::answers::Answer;
-use crate::lines::Args;
-use element_text::Swapped;
-use file_type::{FileType, Known};
+use crate::answers::{Answer, Answered, Text};
+use crate::lines::Call;
+use file_type::FileType;
 
-pub fn answer(a: Args, word: &[u8], space: &[u8], memory: &mut [u8]) -> Answer {
-    if text::is(word, b"ft") {
-        return of_type(FileType::from_code(crate::lines::byte(a, 0)), memory);
-    }
-    if text::is(word, b"simft") {
-        return of_simulated(FileType::from_code(crate::lines::byte(a, 0)), memory);
-    }
-    of_bytes(word, crate::lines::part(space, a, 0), memory)
+// `ft CODE`
+pub fn by_code(call: Call<'_>, memory: &mut [u8]) -> Answered {
+    Ok(of_type(FileType::from_code(call.byte(0)), memory))
 }
 
-// `ft CODE`, `ftname NAME`
-fn of_type(known: Known, memory: &mut [u8]) -> Answer {
-    match known {
-        Known::Unknown => Answer::Nothing,
-        Known::Is(t) => Answer::Text(shown::file_type(t, memory)),
-    }
+// `ftname NAME`
+pub fn by_name(call: Call<'_>, memory: &mut [u8]) -> Answered {
+    Ok(of_type(FileType::from_name(call.bytes(0)), memory))
+}
+
+fn of_type(known: Option<FileType>, memory: &mut [u8]) -> Answer {
+    let Some(t) = known else {
+        return Answer::Nothing;
+    };
+    let mut text = Text::new(memory);
+    let _ = shown::file_type(t, &mut text);
+    text.answer()
 }
 
 // `simft CODE`
-fn of_simulated(known: Known, memory: &mut [u8]) -> Answer {
-    match known {
-        Known::Unknown => Answer::Nothing,
-        Known::Is(t) => shown::simulated(t, memory),
+pub fn simulated(call: Call<'_>, memory: &mut [u8]) -> Answered {
+    let Some(t) = FileType::from_code(call.byte(0)) else {
+        return Ok(Answer::Nothing);
+    };
+    if !t.simulated() {
+        return Ok(Answer::Nothing);
     }
+    let mut text = Text::new(memory);
+    let _ = shown::simulated(t, &mut text);
+    Ok(text.answer())
 }
 
-// `swap BYTES`, `pairs BYTES`, `ascii LATIN1`, `string LATIN1`
-fn of_bytes(word: &[u8], given: &[u8], memory: &mut [u8]) -> Answer {
-    if text::is(word, b"ftname") {
-        return of_type(FileType::from_name(given), memory);
-    }
-    if text::is(word, b"swap") {
-        return swapped(given, memory);
-    }
-    if text::is(word, b"pairs") {
-        return pairs(given, memory);
-    }
-    if text::is(word, b"ascii") {
-        return Answer::Bytes(base::put_all(memory, 0, &element_text::encode_pccc_ascii(given)));
-    }
-    Answer::Bytes(base::put_all(memory, 0, &element_text::encode_pccc_string(given)))
+// `swap BYTES`
+pub fn swapped(call: Call<'_>, memory: &mut [u8]) -> Answered {
+    Ok(Answer::Bytes(element_text::slc_string_swap(call.bytes(0), memory)?))
 }
 
-fn swapped(given: &[u8], memory: &mut [u8]) -> Answer {
-    match element_text::slc_string_swap(given, memory) {
-        Swapped::Refused(k) => Answer::Refused(k),
-        Swapped::Written(n) => Answer::Bytes(n),
-    }
-}
-
-fn pairs(given: &[u8], memory: &mut [u8]) -> Answer {
-    let n = text::within(base::put_all(memory, 0, given), memory);
+// `pairs BYTES`
+pub fn pairs(call: Call<'_>, memory: &mut [u8]) -> Answered {
+    let n = base::put_all(memory, 0, call.bytes(0)).min(memory.len());
     element_text::swap_pairs(&mut memory[..n]);
-    Answer::Bytes(n)
+    Ok(Answer::Bytes(n))
+}
+
+// `ascii LATIN1`
+pub fn ascii(call: Call<'_>, memory: &mut [u8]) -> Answered {
+    let two = element_text::encode_pccc_ascii(call.bytes(0));
+    Ok(Answer::Bytes(base::put_all(memory, 0, &two)))
+}
+
+// `string LATIN1`
+pub fn string(call: Call<'_>, memory: &mut [u8]) -> Answered {
+    let line = element_text::encode_pccc_string(call.bytes(0));
+    Ok(Answer::Bytes(base::put_all(memory, 0, &line)))
 }

@@ -1,9 +1,9 @@
 -- What is written is read back.
+use Rattle.std.specs.Prelude.{Some}
 use Prim.Native.Nat.{ℕ, zero, suc, ◌+◌, ◌*◌, ◌-◌, ◌/◌, ◌%◌, ◌≤◌, ◌<◌}
 use mathlib.Core.Path.{◌≡◌, refl, ap, ◌∙◌}
 use mathlib.Core.List.{List, [], ◌∷◌}
 use mathlib.Core.Bool.{Bool, true, false, cond}
-use mathlib.Core.Option.{some}
 use native.Mathlib.Omega.{arith}
 use lib.Dec.{ltb}
 use lib.ListN.{length}
@@ -41,6 +41,6 @@ unfolding number_of
 of_some [] h = absurd (omega arith)
 of_some (c ∷ l) h = refl
 
-pub decimal_back : (n : ℕ) → number_of (decimal n) ≡ some n
+pub decimal_back : (n : ℕ) → number_of (decimal n) ≡ Some n
 unfolding decimal number_from
 decimal_back n = of_some (decimal_before n n []) (some_digit n n []) ∙ before_back n n [] (omega arith)

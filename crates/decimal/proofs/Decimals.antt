@@ -1,19 +1,18 @@
 -- Laws of decimal text.
+use Rattle.std.specs.Prelude.{Option, None, Some, option_and_then}
 use Prim.Native.Nat.{ℕ, zero, suc, ◌+◌, ◌*◌, ◌-◌, ◌/◌, ◌%◌, ◌^◌, ◌≤◌, ◌<◌}
 use mathlib.Core.Path.{◌≡◌, refl, ap, sym, subst, ◌∙◌}
 use mathlib.Core.List.{List, [], ◌∷◌}
 use mathlib.Core.Bool.{Bool, true, false, cond}
-use mathlib.Core.Option.{none, some}
 use native.Mathlib.Nat.{div-lt_iff_lt-mul, pow-suc}
 use native.Mathlib.Omega.{arith}
 use lib.Dec.{ltb, lit≤}
 use lib.ListN.{length, take, drop, get_or, set, length-set, length-drop, drop_of_length-le}
 use lib.Seq.{drop-cons, take_all, drop-set-lt, get_or-set_same}
-use borrow.Author.Tests.{lt-ltb, le-ltb, lt-leb, le-leb, ltb-true, ltb-false}
+use borrow.Author.Tests.{lt-ltb, le-ltb, ltb-true, ltb-false}
 use Rattle.base.specs.Put.{Puts}
 use Rattle.base.proofs.Parts.{drop_next}
 use Rattle.decimal.specs.Decimals.{decimal_before, decimal, is_digit, number_from, number_of, unsigned_of}
-use Rattle.decimal.specs.declared.Decimal.{Decimal}
 
 -- ---- the digits of a number, from the last
 -- more than enough digits change nothing
@@ -93,84 +92,31 @@ pub decimal_length : (k n : ℕ) → n < 10 ^ suc k → length (decimal n) ≤ s
 unfolding decimal
 decimal_length k n h = omega (arith, before_length k n [] h)
 
--- ---- a digit behind those of n
-module _ (n c : ℕ) where
-  pub below_digit : c < 48 → Decimal.No ≡ unsigned_of (number_from n (c ∷ []))
-  unfolding number_from unsigned_of
-  below_digit h = rw (lt-leb 48 c h)
-
-  pub above_digit : 57 < c → Decimal.No ≡ unsigned_of (number_from n (c ∷ []))
-  unfolding number_from unsigned_of
-  above_digit h = rw (le-leb 48 c (omega arith), lt-leb c 57 h)
-
-  module _ (d : ℕ) (h : 48 ≤ c) (g : c ≤ 57) (e : d ≡ c - 48) where
-    pub digit_over : (18446744073709551615 - d) / 10 < n → Decimal.No ≡ unsigned_of (number_from n (c ∷ []))
-    unfolding number_from unsigned_of
-    digit_over f = rw (le-leb 48 c h, le-leb c 57 g, le-ltb (n * 10 + (c - 48)) 18446744073709551616 (omega arith))
-
-    pub digit_fits : n ≤ (18446744073709551615 - d) / 10 → Decimal.Is (n * 10 + d) ≡ unsigned_of (number_from n (c ∷ []))
-    unfolding number_from unsigned_of
-    digit_fits f =
-        let k : n * 10 + d ≡ n * 10 + (c - 48) = omega arith in
-        rw (le-leb 48 c h, le-leb c 57 g, lt-ltb (n * 10 + (c - 48)) 18446744073709551616 (omega arith), k)
-
 -- ---- a number, digit by digit
 -- what is too large stays so
-too_large : (n : ℕ) (s : List ℕ) → 18446744073709551616 ≤ n → unsigned_of (number_from n s) ≡ Decimal.No
+too_large : (n : ℕ) (s : List ℕ) → 18446744073709551616 ≤ n → unsigned_of (number_from n s) ≡ None
 unfolding number_from unsigned_of
 too_large n [] h = rw (le-ltb n 18446744073709551616 h)
 too_large n (c ∷ s) h = go (is_digit c) (too_large (n * 10 + (c - 48)) s (omega arith))
   where
-    go : (t : Bool) → unsigned_of (number_from (n * 10 + (c - 48)) s) ≡ Decimal.No → unsigned_of (cond t (number_from (n * 10 + (c - 48)) s) none) ≡ Decimal.No
+    go : (t : Bool) → unsigned_of (number_from (n * 10 + (c - 48)) s) ≡ None → unsigned_of (cond t (number_from (n * 10 + (c - 48)) s) None) ≡ None
     go true e = e
     go false e = refl
 
--- what is known of an answer
-not_no : (m : ℕ) → Decimal.Is m ≡ Decimal.No → ⊥
-not_no m e = let z : ◌≡◌ {A = ℕ} 0 1 = cc in omega arith
+-- the first digit stops it, or makes the number that the others stand behind
+digit_first : (n c : ℕ) (s : List ℕ) → unsigned_of (number_from n (c ∷ s)) ≡ option_and_then (λ m. unsigned_of (number_from m s)) (unsigned_of (number_from n (c ∷ [])))
+unfolding number_from unsigned_of
+digit_first n c s = go (is_digit c)
+  where
+    over : (x : ℕ) (t : Bool) → ltb x 18446744073709551616 ≡ t → unsigned_of (number_from x s) ≡ option_and_then (λ m. unsigned_of (number_from m s)) (cond t (Some x) None)
+    over x true e = refl
+    over x false e = too_large x s (ltb-false _ _ e)
 
-pub not_none : (m : ℕ) → Decimal.Is m ≡ unsigned_of none → ⊥
-unfolding unsigned_of
-not_none m e = not_no m e
+    go : (t : Bool) → unsigned_of (cond t (number_from (n * 10 + (c - 48)) s) None) ≡ option_and_then (λ m. unsigned_of (number_from m s)) (unsigned_of (cond t (Some (n * 10 + (c - 48))) None))
+    go true = over (n * 10 + (c - 48)) _ refl
+    go false = refl
 
-module _ (x : ℕ) where
-  pub is_read : (m : ℕ) → Decimal.Is m ≡ unsigned_of (some x) → (m ≡ x) × (x < 18446744073709551616)
-  unfolding unsigned_of
-  is_read m e = go (ltb x 18446744073709551616) refl e
-    where
-      go : (t : Bool) → ltb x 18446744073709551616 ≡ t → Decimal.Is m ≡ cond t (Decimal.Is x) Decimal.No → (m ≡ x) × (x < 18446744073709551616)
-      go true h f = (cc, ltb-true x 18446744073709551616 h)
-      go false h f = absurd (not_no m f)
-
-  pub no_read : Decimal.No ≡ unsigned_of (some x) → 18446744073709551616 ≤ x
-  unfolding unsigned_of
-  no_read e = go (ltb x 18446744073709551616) refl e
-    where
-      go : (t : Bool) → ltb x 18446744073709551616 ≡ t → Decimal.No ≡ cond t (Decimal.Is x) Decimal.No → 18446744073709551616 ≤ x
-      go true h f = absurd (not_no x (sym f))
-      go false h f = ltb-false x 18446744073709551616 h
-
--- the first digit was read, or stops it
-module _ (n c : ℕ) (s : List ℕ) where
-  digit_more : (m : ℕ) → Decimal.Is m ≡ unsigned_of (number_from n (c ∷ [])) → (m < 18446744073709551616) × (unsigned_of (number_from m s) ≡ unsigned_of (number_from n (c ∷ s)))
-  unfolding number_from
-  digit_more m e = go (is_digit c) e
-    where
-      go : (t : Bool) → Decimal.Is m ≡ unsigned_of (cond t (some (n * 10 + (c - 48))) none) → (m < 18446744073709551616) × (unsigned_of (number_from m s) ≡ unsigned_of (cond t (number_from (n * 10 + (c - 48)) s) none))
-      go true e =
-          let k = is_read (n * 10 + (c - 48)) m e in
-          (omega arith, ap (λ (x : ℕ). unsigned_of (number_from x s)) k.0)
-      go false e = absurd (not_none m e)
-
-  digit_stop : Decimal.No ≡ unsigned_of (number_from n (c ∷ [])) → unsigned_of (number_from n (c ∷ s)) ≡ Decimal.No
-  unfolding number_from unsigned_of
-  digit_stop e = go (is_digit c) e
-    where
-      go : (t : Bool) → Decimal.No ≡ unsigned_of (cond t (some (n * 10 + (c - 48))) none) → unsigned_of (cond t (number_from (n * 10 + (c - 48)) s) none) ≡ Decimal.No
-      go true e = too_large (n * 10 + (c - 48)) s (no_read (n * 10 + (c - 48)) e)
-      go false e = refl
-
-pub number_empty : (s : List ℕ) → length s ≡ 0 → Decimal.No ≡ unsigned_of (number_of s)
+pub number_empty : (s : List ℕ) → length s ≡ 0 → None ≡ unsigned_of (number_of s)
 unfolding number_of unsigned_of
 number_empty [] h = refl
 number_empty (c ∷ s) h = absurd (omega arith)
@@ -180,19 +126,11 @@ unfolding number_of
 number_start [] h = absurd (h refl)
 number_start (c ∷ s) h = refl
 
-module _ (s : List ℕ) (n i : ℕ) (e : unsigned_of (number_from n (drop i s)) ≡ unsigned_of (number_of s)) where
-  module _ (a : Decimal) (h : i < length s) (f : a ≡ unsigned_of (number_from n (get_or s i 0 ∷ []))) where
-    pub number_stop : a ≡ Decimal.No → Decimal.No ≡ unsigned_of (number_of s)
-    number_stop g =
-        sym (digit_stop n (get_or s i 0) (drop (i + 1) s) (sym g ∙ f)) ∙ ap (λ (l : List ℕ). unsigned_of (number_from n l)) (sym (drop_next s i h)) ∙ e
+pub number_step : (s : List ℕ) (n i : ℕ) (a : Option ℕ) → i < length s → a ≡ unsigned_of (number_from n (get_or s i 0 ∷ [])) → unsigned_of (number_from n (drop i s)) ≡ option_and_then (λ m. unsigned_of (number_from m (drop (i + 1) s))) a
+number_step s n i a h f = rw (drop_next s i h, f) (digit_first n (get_or s i 0) (drop (i + 1) s))
 
-    pub number_less : (m : ℕ) → a ≡ Decimal.Is m → m < 18446744073709551616
-    number_less m g = (digit_more n (get_or s i 0) (drop (i + 1) s) m (sym g ∙ f)).0
+pub number_done : (s : List ℕ) (n i : ℕ) → length s ≤ i → n < 18446744073709551616 → Some n ≡ unsigned_of (number_from n (drop i s))
+unfolding number_from unsigned_of
+number_done s n i h g = rw (drop_of_length-le s h, lt-ltb n 18446744073709551616 g)
 
-    pub number_turn : (m : ℕ) → a ≡ Decimal.Is m → unsigned_of (number_from m (drop (i + 1) s)) ≡ unsigned_of (number_of s)
-    number_turn m g =
-        (digit_more n (get_or s i 0) (drop (i + 1) s) m (sym g ∙ f)).1 ∙ ap (λ (l : List ℕ). unsigned_of (number_from n l)) (sym (drop_next s i h)) ∙ e
-
-  pub number_done : length s ≤ i → n < 18446744073709551616 → Decimal.Is n ≡ unsigned_of (number_of s)
-  unfolding number_from unsigned_of
-  number_done h g = rw (drop_of_length-le s h, lt-ltb n 18446744073709551616 g) at e
+pub ruleset numbers = (number_empty, number_start, number_step)

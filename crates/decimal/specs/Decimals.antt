@@ -1,8 +1,5 @@
 -- Numbers as decimal text.
-use Rattle.std.specs.Prelude.{ℕ, zero, suc, ◌+◌, ◌*◌, ◌-◌, ◌/◌, ◌%◌, ◌^◌, List, [], ◌∷◌, Bool, cond, ◌&&◌, ltb, leb, eqb, ℤ, pos, negsuc, neg_ℤ}
-use Rattle.std.proofs.Math.Option.{Option, none, some}
-use Rattle.decimal.specs.declared.Decimal.{Decimal}
-use Rattle.decimal.specs.declared.Whole.{Whole}
+use Rattle.std.specs.Prelude.{ℕ, zero, suc, ◌+◌, ◌*◌, ◌-◌, ◌/◌, ◌%◌, ◌^◌, List, [], ◌∷◌, Bool, cond, ◌&&◌, ltb, leb, eqb, ℤ, pos, negsuc, neg_ℤ, Option, None, Some}
 
 -- the digits of n in front of a text; k is at least as many as the digits behind the first
 unfoldable pub decimal_before : ℕ → ℕ → List ℕ → List ℕ
@@ -24,30 +21,30 @@ is_digit c = leb 48 c && leb c 57
 
 -- the number that digits stand for, behind those that make n
 unfoldable pub number_from : ℕ → List ℕ → Option ℕ
-number_from n [] = some n
-number_from n (c ∷ s) = cond (is_digit c) (number_from (n * 10 + (c - 48)) s) none
+number_from n [] = Some n
+number_from n (c ∷ s) = cond (is_digit c) (number_from (n * 10 + (c - 48)) s) None
 
 -- a number of any size: one or more digits, leading zeros allowed
 unfoldable pub number_of : List ℕ → Option ℕ
-number_of [] = none
+number_of [] = None
 number_of (c ∷ s) = number_from 0 (c ∷ s)
 
 -- of these, the numbers below 2 ^ 64
-unfoldable pub unsigned_of : Option ℕ → Decimal
-unsigned_of none = Decimal.No
-unsigned_of (some n) = cond (ltb n (2 ^ 64)) (Decimal.Is n) Decimal.No
+unfoldable pub unsigned_of : Option ℕ → Option ℕ
+unsigned_of None = None
+unsigned_of (Some n) = cond (ltb n (2 ^ 64)) (Some n) None
 
 -- a number with no sign in front, below 2 ^ 63
-unfoldable pub plus : Option ℕ → Whole
-plus none = Whole.No
-plus (some n) = cond (ltb n (2 ^ 63)) (Whole.Is (pos n)) Whole.No
+unfoldable pub plus : Option ℕ → Option ℤ
+plus None = None
+plus (Some n) = cond (ltb n (2 ^ 63)) (Some (pos n)) None
 
 -- a number with `-` in front, down to - 2 ^ 63
-unfoldable pub minus : Option ℕ → Whole
-minus none = Whole.No
-minus (some n) = cond (leb n (2 ^ 63)) (Whole.Is (neg_ℤ (pos n))) Whole.No
+unfoldable pub minus : Option ℕ → Option ℤ
+minus None = None
+minus (Some n) = cond (leb n (2 ^ 63)) (Some (neg_ℤ (pos n))) None
 
 -- a single `-` may stand in front
-unfoldable pub signed_of : List ℕ → Whole
-signed_of [] = Whole.No
+unfoldable pub signed_of : List ℕ → Option ℤ
+signed_of [] = None
 signed_of (c ∷ s) = cond (eqb c 45) (minus (number_of s)) (plus (number_of (c ∷ s)))

@@ -1,14 +1,14 @@
 -- Laws of the second pass.
-use Prim.Native.Nat.{ℕ, suc, ◌+◌, ◌-◌, ◌/◌, ◌≤◌, ◌<◌, min}
+use Prim.Native.Nat.{ℕ, suc, ◌+◌, ◌-◌, ◌/◌, ◌≤◌, ◌<◌}
 use mathlib.Core.Path.{◌≡◌, refl, ap, sym, ◌∙◌}
+use mathlib.Core.Logic.{◌⊎◌, inl, inr}
 use mathlib.Core.Bool.{Bool, true, false, ◌&&◌, cond}
 use mathlib.Core.List.{List, [], ◌∷◌, ◌++◌, append_assoc}
 use native.Mathlib.Nat.{add-zero}
 use native.Mathlib.Numerals.{add-one}
 use native.Mathlib.Omega.{arith}
-use borrow.Author.Tests.{leb-true, leb-false}
-use lib.Dec.{eqb, leb}
-use lib.ListN.{length, take, drop, get_or, set, length-set, take-append-drop}
+use lib.Dec.{eqb}
+use lib.ListN.{length, take, drop, get_or, set, length-set, length-drop, take-append-drop}
 use lib.Seq.{take-suc-set, drop-set-lt}
 use mir.Syntax.{w32}
 use mir.Val.{Fits}
@@ -20,7 +20,7 @@ use Rattle.directory_row.specs.Row.{row_of, number_of}
 use Rattle.directory.specs.declared.rows.Turn.{Turn}
 use Rattle.directory.specs.Passes.{lay, Turned}
 use Rattle.directory.specs.Rows.{rows, files_from}
-use Rattle.directory.proofs.RowLaws.{rows_end, rows_next, saturated}
+use Rattle.directory.proofs.RowLaws.{rows_from, rows_end, rows_next}
 
 -- ---- the number of a file
 module _ (t : FileType) (n : ℕ) where
@@ -47,11 +47,26 @@ lay_cons l at f fs h =
     rw (a, drop-set-lt (at + suc (length fs)) l at f b, add-one, take-suc-set l at f h) (append_assoc (take at l) (f ∷ []) (fs ++ drop (at + suc (length fs)) l))
 
 -- ---- a row
+-- a file's row alone has one
+pub row_room : (n k room : ℕ) (r : Row) (t : FileType) (bytes : ℕ) → k + length (files_from n (r ∷ [])) ≤ room → r ≡ row·.File t bytes → k < room
+unfolding files_from
+row_room n k room r t bytes h e =
+    let f : length (files_from n (r ∷ [])) ≡ 1 = ap (λ (x : Row). length (files_from n (x ∷ []))) e in
+    omega arith
+
+-- and no more than with other rows behind it
+fewer : (n : ℕ) (r : Row) (rs : List Row) → length (files_from n (r ∷ [])) ≤ length (files_from n (r ∷ rs))
+unfolding files_from
+fewer n (row·.File t bytes) rs = omega arith
+fewer n row·.Cut rs = omega arith
+fewer n row·.Reserved rs = omega arith
+fewer n row·.Other rs = omega arith
+
 module _ (l : List (List ℕ)) (p : Turn) (r : Row) where
-  pub turn_file : (t : FileType) (bytes c n e : ℕ) → p.at < length l → r ≡ row·.File t bytes → n ≡ number_of t p.number → c ≡ (row t).code → e ≡ bytes / (row t).size
-      → Turned l p r (record { at = p.at + 1; number = n + 1 }) (set l p.at (c ∷ n ∷ e ∷ bytes ∷ []))
+  pub turn_file : (t : FileType) (bytes c n e b : ℕ) → p.at < length l → r ≡ row·.File t bytes → b ≡ bytes → n ≡ number_of t p.number → c ≡ (row t).code → e ≡ bytes / (row t).size
+      → Turned l p r (record { at = p.at + 1; number = n + 1 }) (set l p.at (c ∷ n ∷ e ∷ b ∷ []))
   unfolding files_from
-  turn_file t bytes c n e h er en ec ee = rw (er, en, ec, ee) record {
+  turn_file t bytes c n e b h er eb en ec ee = rw (er, eb, en, ec, ee) record {
     kept = length-set l p.at _;
     left = λ rs. lay_cons l p.at _ _ h;
     files = λ rs. omega arith;
@@ -67,59 +82,58 @@ module _ (l : List (List ℕ)) (p : Turn) (r : Row) where
     small = λ k g. omega arith;
   }
 
-  pub turn_cut : r ≡ row·.Cut → Turned l p r (record { at = p.at; number = p.number }) l
+  -- a row that leaves all as it is
+  pub turn_none : (r ≡ row·.Cut) ⊎ (r ≡ row·.Other) → Turned l p r p l
   unfolding files_from
-  turn_cut e = no_file p.number (λ rs. rw e) (omega arith)
+  turn_none (inl e) = no_file p.number (λ rs. rw e) (omega arith)
+  turn_none (inr e) = no_file p.number (λ rs. rw e) (omega arith)
 
   pub turn_reserved : r ≡ row·.Reserved → Turned l p r (record { at = p.at; number = p.number + 1 }) l
   unfolding files_from
   turn_reserved e = no_file (p.number + 1) (λ rs. rw e) (omega arith)
 
-  pub turn_other : r ≡ row·.Other → Turned l p r (record { at = p.at; number = p.number }) l
-  unfolding files_from
-  turn_other e = no_file p.number (λ rs. rw e) (omega arith)
-
 -- ---- the loop: what is left to lay gives what the whole gives
-module _ (s : List ℕ) (l whole : List (List ℕ)) (size place n : ℕ) (p : Turn) (h : 0 < size) (left : lay l p.at (files_from p.number (rows place size s)) ≡ whole) (files : p.at + length (files_from p.number (rows place size s)) ≡ n) where
-  pub lay_done : n ≤ p.at → l ≡ whole
-  lay_done g = sym (lay_none l p.at) ∙ ap (lay l p.at) (sym (none (files_from p.number (rows place size s)) (omega arith))) ∙ left
-    where
-      none : (fs : List (List ℕ)) → length fs ≤ 0 → fs ≡ []
-      none [] k = refl
-      none (f ∷ fs) k = absurd (omega arith)
+module _ (size : ℕ) (h : 0 < size) where
+  module _ (first : ℕ) (s rest : List ℕ) (e : rest ≡ drop first s) where
+    whole_rows : rows 0 size rest ≡ rows first size s
+    whole_rows = ap (rows 0 size) e ∙ sym (rows_from size h first s)
 
-  -- while files are left there is a row
-  module _ (more : p.at < n) where
-    pub row_left : place < length s
+    pub lay_init : (l : List (List ℕ)) → lay l 0 (files_from 0 (rows 0 size rest)) ≡ lay l 0 (files_from 0 (rows first size s))
+    lay_init l = ap (λ (rs : List Row). lay l 0 (files_from 0 rs)) whole_rows
+
+    pub room_init : (n : ℕ) → length (files_from 0 (rows first size s)) ≤ n → 0 + length (files_from 0 (rows 0 size rest)) ≤ n
+    room_init n g = omega (arith, ap (λ (rs : List Row). length (files_from 0 rs)) whole_rows)
+
+  module _ (s : List ℕ) (l whole : List (List ℕ)) (p : Turn) (left : lay l p.at (files_from p.number (rows 0 size s)) ≡ whole) (files : p.at + length (files_from p.number (rows 0 size s)) ≤ length l) where
+    pub lay_done : length s < 1 → l ≡ whole
     unfolding files_from
-    row_left = go (leb (length s) place) refl
-      where
-        go : (b : Bool) → leb (length s) place ≡ b → place < length s
-        go true f =
-            let e : files_from p.number (rows place size s) ≡ [] = ap (files_from p.number) (rows_end size h s place (leb-true _ _ f)) in
-            absurd (omega (arith, ap length e))
-        go false f = leb-false _ _ f
+    lay_done g = sym (lay_none l p.at) ∙ ap (λ (rs : List Row). lay l p.at (files_from p.number rs)) (sym (rows_end size h s g)) ∙ left
 
-    module _ (short : length s ≤ 65535) where
-      pub small_number : p.number ≤ place + 1 → p.number ≤ 65536
-      small_number g = omega (arith, row_left)
+    module _ (r : Row) (g : 1 ≤ length s) (er : r ≡ row_of (of_code (get_or s 0 0)) (get_or s 0 0) (drop 1 s)) where
+      here : r ∷ rows 0 size (drop size s) ≡ rows 0 size s
+      here = ap (λ (x : Row). x ∷ rows 0 size (drop size s)) er ∙ sym (rows_next size h s g)
 
-      module _ (at : ℕ) (ea : at ≡ min (place + size) 18446744073709551615) where
-        pub row_fewer : length s - at < length s - place
-        row_fewer = omega (arith, row_left)
+      pub row_within : p.at + length (files_from p.number (r ∷ [])) ≤ length l
+      row_within = omega (arith, fewer p.number r (rows 0 size (drop size s)), ap (λ (rs : List Row). length (files_from p.number rs)) here)
 
-        module _ (r : Row) (q : Turn) (m : List (List ℕ)) (er : r ≡ row_of (of_code (get_or s place 0)) (get_or s place 0) (drop (place + 1) s)) (w : Turned l p r q m) where
-          here : r ∷ rows at size s ≡ rows place size s
-          here =
-              ap (λ (rs : List Row). r ∷ rs) (saturated size h s place at short ea)
-              ∙ ap (λ (x : Row). x ∷ rows (place + size) size s) er
-              ∙ sym (rows_next size h s place row_left)
+      module _ (q : Turn) (m : List (List ℕ)) (w : Turned l p r q m) (rest : List ℕ) (f : rest ≡ drop size s) where
+        there : r ∷ rows 0 size rest ≡ rows 0 size s
+        there = ap (λ (x : List ℕ). r ∷ rows 0 size x) f ∙ here
 
-          pub left_turn : lay m q.at (files_from q.number (rows at size s)) ≡ whole
-          left_turn = w.left (rows at size s) ∙ ap (λ (rs : List Row). lay l p.at (files_from p.number rs)) here ∙ left
+        pub left_turn : lay m q.at (files_from q.number (rows 0 size rest)) ≡ whole
+        left_turn = w.left (rows 0 size rest) ∙ ap (λ (rs : List Row). lay l p.at (files_from p.number rs)) there ∙ left
 
-          pub files_turn : q.at + length (files_from q.number (rows at size s)) ≡ n
-          files_turn = w.files (rows at size s) ∙ ap (λ (rs : List Row). p.at + length (files_from p.number rs)) here ∙ files
+        pub files_turn : q.at + length (files_from q.number (rows 0 size rest)) ≤ length m
+        files_turn = omega (arith, w.kept, w.files (rows 0 size rest), ap (λ (rs : List Row). length (files_from p.number rs)) there)
 
-          pub number_turn : p.number ≤ place + 1 → q.number ≤ at + 1
-          number_turn g = omega (arith, row_left, w.small place g)
+        shorter : length rest + 1 ≤ length s
+        shorter =
+            let i : length rest ≡ length (drop size s) = ap length f in
+            let j : length (drop size s) + 1 ≤ length s = simp length-drop (omega arith) in
+            omega arith
+
+        pub short_turn : length s ≤ 65535 → length rest ≤ 65535
+        short_turn k = omega (arith, shorter)
+
+        pub number_turn : length s ≤ 65535 → p.number + length s ≤ 65536 → q.number + length rest ≤ 65536
+        number_turn k i = omega (arith, shorter, w.small (65535 - length s) (omega arith))

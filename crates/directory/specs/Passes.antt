@@ -1,17 +1,15 @@
 -- What the passes over the rows do: the first counts, the second lays the files.
-use Rattle.std.specs.Prelude.{ℕ, ◌+◌, ◌≤◌, ◌≡◌, List, [], ◌∷◌, ◌++◌, length, take, drop}
-use Rattle.directory.specs.declared.rows.Counted.{Counted}
-use Rattle.directory.specs.declared.rows.Counted.TheVariants as counted
+use Rattle.std.specs.Prelude.{ℕ, ◌+◌, ◌≤◌, ◌≡◌, List, [], ◌∷◌, ◌++◌, length, take, drop, Option, None, Some}
 use Rattle.directory_row.specs.declared.Row.{Row}
 use Rattle.directory_row.specs.declared.Row.TheVariants as row·
 use Rattle.directory.specs.declared.rows.Turn.{Turn}
 use Rattle.directory.specs.Rows.{files_from}
 
 -- n files, and those of the rows, unless one of them is cut
-unfoldable pub count_from : ℕ → List Row → Counted
-count_from n [] = counted.Files n
+unfoldable pub count_from : ℕ → List Row → Option ℕ
+count_from n [] = Some n
 count_from n (row·.File t bytes ∷ rs) = count_from (n + 1) rs
-count_from n (row·.Cut ∷ rs) = counted.Cut
+count_from n (row·.Cut ∷ rs) = None
 count_from n (row·.Reserved ∷ rs) = count_from n rs
 count_from n (row·.Other ∷ rs) = count_from n rs
 

@@ -1,11 +1,11 @@
 -- The rows of a file directory and the files that they name (document 01, "Directory rows", "Traps" and module 5).
-use Rattle.std.specs.Prelude.{ℕ, zero, suc, ◌+◌, ◌≡◌, Bool, true, false, cond, List, [], ◌∷◌, ◌++◌, eqb, ltb, length, drop}
+use Rattle.std.specs.Prelude.{ℕ, zero, suc, ◌+◌, ◌≡◌, Bool, true, false, cond, List, [], ◌∷◌, ◌++◌, eqb, ltb, length, drop, Result, Ok, Err}
 use Rattle.file_type.specs.Table.{of_code}
 use Rattle.directory_row.specs.declared.Row.{Row}
 use Rattle.directory_row.specs.declared.Row.TheVariants as row·
 use Rattle.directory_row.specs.Row.{row_of, number_of, entry}
-use Rattle.directory.specs.declared.Listed.{Listed}
-use Rattle.directory.specs.declared.Listed.TheVariants as listed·
+use Rattle.base.specs.declared.refusal.Refusal.{Refusal}
+use Rattle.base.specs.declared.refusal.Refusal.TheVariants.{LongDirectory, NoRowSize, CutRow, MoreFilesThanRoom}
 
 -- a row at the first of these bytes, the next `size` bytes further on, as long as there are any; at most `most` rows
 unfoldable pub rows_in : ℕ → ℕ → List ℕ → List Row
@@ -33,33 +33,32 @@ files_from n (row·.Cut ∷ rs) = files_from n rs
 files_from n (row·.Reserved ∷ rs) = files_from (n + 1) rs
 files_from n (row·.Other ∷ rs) = files_from n rs
 
--- the number of a refusal, or the files
-pub data Says : Type 0 where
-  refuses : ℕ → Says
-  lists : List (List ℕ) → Says
+-- a refusal, or the files
+abbrev pub Says : Type 0
+Says = Result (List (List ℕ)) Refusal
 
 -- "Does the output hold all found files? no: 10"
 abbrev pub within : ℕ → List (List ℕ) → Says
-within room files = cond (ltb room (length files)) (refuses 10) (lists files)
+within room files = cond (ltb room (length files)) (Err MoreFilesThanRoom) (Ok files)
 
 -- "Do two bytes follow every known type code met? no: 9"
 abbrev pub listed_in : ℕ → List Row → Says
-listed_in room rs = cond (any_cut rs) (refuses 9) (within room (files_from 0 rs))
+listed_in room rs = cond (any_cut rs) (Err CutRow) (within room (files_from 0 rs))
 
 -- "Is the data at most 65,535 bytes? no: 7. Is the row size not 0? no: 8."
 unfoldable pub listed : ℕ → ℕ → List ℕ → ℕ → Says
 listed first size s room =
-    cond (ltb 65535 (length s)) (refuses 7) (cond (eqb size 0) (refuses 8) (listed_in room (rows first size s)))
+    cond (ltb 65535 (length s)) (Err LongDirectory) (cond (eqb size 0) (Err NoRowSize) (listed_in room (rows first size s)))
 
 -- what the call answers, and the memory that it leaves: the files, and nothing behind them changed
-abbrev pub answer_of : Says → Listed
-answer_of (refuses n) = listed·.Refused n
-answer_of (lists files) = listed·.Files (length files)
+abbrev pub answer_of : Says → Result ℕ Refusal
+answer_of (Err e) = Err e
+answer_of (Ok files) = Ok (length files)
 
 abbrev pub left_of : Says → List (List ℕ) → List (List ℕ)
-left_of (refuses n) l = l
-left_of (lists files) l = files ++ drop (length files) l
+left_of (Err e) l = l
+left_of (Ok files) l = files ++ drop (length files) l
 
-pub record Lists (o : Says) (l : List (List ℕ)) (r : Listed) (l' : List (List ℕ)) : Type 0 where
+pub record Lists (o : Says) (l : List (List ℕ)) (r : Result ℕ Refusal) (l' : List (List ℕ)) : Type 0 where
   pub answer : r ≡ answer_of o
   pub memory : l' ≡ left_of o l

@@ -6,14 +6,7 @@ mod rows;
 ghost use Rattle.std.specs.Prelude.{◌≡◌, ◌<◌, ◌≤◌, length};
 ghost use Rattle.directory.specs.Rows.{rows as rows_rows, files_from, within, listed, Lists};
 
-use rows::Counted;
-
-// How many files there are, or the number of the question that was answered with no.
-#[derive(Clone, Copy)]
-pub enum Listed {
-    Refused(u8),
-    Files(usize),
-}
+use base::Refusal;
 
 // The files of a directory in the order of its rows: each is its type code, number, elements and length in bytes.
 pub fn parse_file_directory(
@@ -21,28 +14,19 @@ pub fn parse_file_directory(
     row_size: usize,
     bytes: &[u8],
     out: &mut [[u32; 4]],
-) -> Listed
+) -> Result<usize, Refusal>
     ensures { Lists (listed file_position row_size bytes.now (length out.old)) out.old result out.new }
 {
     if 65535 < bytes.len() {
-        return Listed::Refused(7);
+        return Err(Refusal::LongDirectory);
     }
     if row_size == 0 {
-        return Listed::Refused(8);
+        return Err(Refusal::NoRowSize);
     }
-    match rows::count_files(file_position, row_size, bytes) {
-        Counted::Cut => Listed::Refused(9),
-        Counted::Files(n) => list(file_position, row_size, bytes, n, out),
-    }
-}
-
-fn list(first: usize, size: usize, bytes: &[u8], n: usize, out: &mut [[u32; 4]]) -> Listed
-    requires { (length bytes.now ≤ 65535) × (0 < size) × (n ≡ length (files_from 0 (rows_rows first size bytes.now))) }
-    ensures { Lists (within (length out.old) (files_from 0 (rows_rows first size bytes.now))) out.old result out.new }
-{
+    let n = rows::count_files(file_position, row_size, bytes).ok_or(Refusal::CutRow)?;
     if out.len() < n {
-        return Listed::Refused(10);
+        return Err(Refusal::MoreFilesThanRoom);
     }
-    rows::lay_files(first, size, bytes, n, out);
-    Listed::Files(n)
+    rows::lay_files(file_position, row_size, bytes, out);
+    Ok(n)
 }

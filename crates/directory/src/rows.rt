@@ -1,58 +1,55 @@
 // The rows of a file directory, in two passes: one judges them and counts the files, the other lays the files over the output.
-ghost use Rattle.std.specs.Prelude.{◌≡◌, [], ◌∷◌, ◌+◌, ◌<◌, ◌≤◌, length, drop, get_or};
+ghost use Rattle.std.specs.Prelude.{◌≡◌, [], ◌∷◌, ◌+◌, ◌<◌, ◌≤◌, length, drop};
 ghost use Rattle.file_type.specs.Table.{of_code};
 ghost use Rattle.directory_row.specs.Row.{row_of};
 ghost use Rattle.directory.specs.Passes.{count_from, lay, Turned};
 ghost use Rattle.directory.specs.Rows.{rows, files_from};
 
 use directory_row::Row;
-use file_type::{FileType, Known};
+use file_type::FileType;
 
-fn row_at(bytes: &[u8], at: usize) -> Row
-    requires { at < length bytes.now }
-    ensures { result ≡ row_of (of_code (get_or bytes.now at 0)) (get_or bytes.now at 0) (drop (at + 1) bytes.now) }
+// The bytes from a place on.
+fn from(bytes: &[u8], at: usize) -> &[u8]
+    ensures { result.now ≡ drop at bytes.now }
 {
-    let code = bytes[at];
-    let known = FileType::from_code(code);
-    match known {
-        Known::Is(t) => directory_row::file_row(bytes, at + 1, t),
-        Known::Unknown => directory_row::other_row(code),
+    &bytes[at.min(bytes.len())..]
+}
+
+// What the row at the first of these bytes says.
+fn first_row(code: u8, row: &[u8]) -> Row
+    ensures { result ≡ row_of (of_code code) code (drop 1 row.now) }
+{
+    match FileType::from_code(code) {
+        Some(t) => directory_row::file_row(row, 1, t),
+        None => directory_row::other_row(code),
     }
 }
 
-// How many files there are, unless a row is cut.
-#[derive(Clone, Copy)]
-pub enum Counted {
-    Cut,
-    Files(usize),
-}
-
-fn count_row(n: usize, row: Row) -> Counted
+// How many files there are with this row's, unless it is cut.
+#[tactic(auto, unfolding(crate::specs::Passes::count_from))]
+fn count_row(n: usize, row: Row) -> Option<usize>
     requires { n < 65536 }
     ensures { result ≡ count_from n (row ∷ []) }
 {
     match row {
-        Row::File(_, _) => Counted::Files(n + 1),
-        Row::Cut => Counted::Cut,
-        Row::Reserved => Counted::Files(n),
-        Row::Other => Counted::Files(n),
+        Row::File(_, _) => Some(n + 1),
+        Row::Cut => None,
+        Row::Reserved | Row::Other => Some(n),
     }
 }
 
-pub fn count_files(first: usize, size: usize, bytes: &[u8]) -> Counted
+// How many files there are, unless a row is cut.
+pub fn count_files(first: usize, size: usize, bytes: &[u8]) -> Option<usize>
     requires { (length bytes.now ≤ 65535) × (0 < size) }
     ensures { result ≡ count_from 0 (rows first size bytes.now) }
 {
-    let mut at = first;
     let mut n = 0;
-    while at < bytes.len() {
-        let Counted::Files(m) = count_row(n, row_at(bytes, at)) else {
-            return Counted::Cut;
-        };
-        n = m;
-        at = directory_row::further(at, size);
+    let mut rest = from(bytes, first);
+    while let [code, ..] = rest {
+        n = count_row(n, first_row(*code, rest))?;
+        rest = from(rest, size);
     }
-    Counted::Files(n)
+    Some(n)
 }
 
 // How many files are laid, and the number of the next row that counts.
@@ -63,43 +60,36 @@ pub struct Turn {
 }
 
 fn lay_row(out: &mut [[u32; 4]], p: Turn, row: Row) -> Turn
-    requires { (p.at < length out.old) × (p.number ≤ 65536) }
+    requires { (p.at + length (files_from p.number (row ∷ [])) ≤ length out.old) × (p.number ≤ 65536) }
     ensures { Turned out.old p row result out.new }
 {
-    let at = p.at;
-    let number = p.number;
     match row {
         Row::File(t, size) => {
-            let n = directory_row::number_of(t, number);
-            out[at] = [
-                t.code() as u32,
-                n,
-                directory_row::elements(t, size),
-                size as u32,
-            ];
+            let number = directory_row::number_of(t, p.number);
+            let elements = directory_row::elements(t, size);
+            out[p.at] = [u32::from(t.code()), number, elements, u32::from(size)];
             Turn {
-                at: at + 1,
-                number: n + 1,
+                at: p.at + 1,
+                number: number + 1,
             }
         }
-        Row::Cut => Turn { at, number },
         Row::Reserved => Turn {
-            at,
-            number: number + 1,
+            number: p.number + 1,
+            ..p
         },
-        Row::Other => Turn { at, number },
+        Row::Cut | Row::Other => p,
     }
 }
 
-// The first n files, which are all, from the start of the output on.
-pub fn lay_files(first: usize, size: usize, bytes: &[u8], n: usize, out: &mut [[u32; 4]])
-    requires { (length bytes.now ≤ 65535) × (0 < size) × (n ≡ length (files_from 0 (rows first size bytes.now))) × (n ≤ length out.old) }
+// The files from the start of the output on.
+pub fn lay_files(first: usize, size: usize, bytes: &[u8], out: &mut [[u32; 4]])
+    requires { (length bytes.now ≤ 65535) × (0 < size) × (length (files_from 0 (rows first size bytes.now)) ≤ length out.old) }
     ensures { out.new ≡ lay out.old 0 (files_from 0 (rows first size bytes.now)) }
 {
-    let mut place = first;
+    let mut rest = from(bytes, first);
     let mut p = Turn { at: 0, number: 0 };
-    while p.at < n {
-        p = lay_row(out, p, row_at(bytes, place));
-        place = directory_row::further(place, size);
+    while let [code, ..] = rest {
+        p = lay_row(out, p, first_row(*code, rest));
+        rest = from(rest, size);
     }
 }

@@ -1,10 +1,8 @@
 -- One row of a file directory and the file that it names (document 01, "Directory rows", "Traps" and module 5).
-use Rattle.std.specs.Prelude.{ℕ, ◌/◌, ◌&&◌, cond, List, [], ◌∷◌, eqb, ltb, length, take}
+use Rattle.std.specs.Prelude.{ℕ, ◌/◌, ◌&&◌, cond, List, [], ◌∷◌, eqb, ltb, length, take, Option, None, Some}
 use Rattle.base.specs.Numbers.{number}
 use Rattle.file_type.specs.declared.FileType.{FileType}
 use Rattle.file_type.specs.declared.FileType.TheVariants.{I}
-use Rattle.file_type.specs.declared.Known.{Known}
-use Rattle.file_type.specs.declared.Known.TheVariants as known
 use Rattle.file_type.specs.Table.{row}
 use Rattle.directory_row.specs.declared.Row.{Row}
 use Rattle.directory_row.specs.declared.Row.TheVariants as row·
@@ -19,9 +17,9 @@ abbrev pub other_row : ℕ → Row
 other_row code = cond (eqb code 0x81) row·.Reserved row·.Other
 
 -- what a code says with the bytes behind it
-abbrev pub row_of : Known → ℕ → List ℕ → Row
-row_of (known.Is t) code behind = file_row t behind
-row_of known.Unknown code behind = other_row code
+abbrev pub row_of : Option FileType → ℕ → List ℕ → Row
+row_of (Some t) code behind = file_row t behind
+row_of None code behind = other_row code
 
 -- "an I row while the number is 0 becomes number 1"
 abbrev pub number_of : FileType → ℕ → ℕ

@@ -1,21 +1,12 @@
 -- A family is looked for name by name.
-use Prim.Native.Nat.{ℕ, ◌<◌, ◌≤◌}
+use Prim.Native.Nat.{ℕ}
 use Prim.Native.String.{String}
-use mathlib.Core.Path.{◌≡◌, sym, ap, ◌∙◌}
+use mathlib.Core.Path.{◌≡◌, sym}
 use mathlib.Core.Bool.{Bool, true, false}
 use mathlib.Core.List.{List, [], ◌∷◌}
-use lib.ListN.{length, take}
-use lib.Seq.{take_all, length-take-le}
-use native.Mathlib.Omega.{arith}
 use Rattle.base.specs.Chars.{bytes, spelled}
 use Rattle.directory_sys0.specs.declared.Sys0Info.{Sys0Info}
-use Rattle.directory_sys0.specs.Families.{families, family_in, layout, sys0}
-
-pub short : (s : List ℕ) → length s < 4 → s ≡ take 4 s
-short s h = let k : length s ≤ 4 = omega arith in sym (take_all 4 s k)
-
-pub cut : (s : List ℕ) → 4 ≤ length s → 4 ≡ length (take 4 s)
-cut s h = sym (length-take-le 4 s h)
+use Rattle.directory_sys0.specs.Families.{family_in, layout}
 
 module _ (name : String) (s : List ℕ) (v : Sys0Info) (xs : List (String × Sys0Info)) {r : Sys0Info} {b : Bool} where
   pub here : b ≡ spelled false (bytes name) s → b ≡ true → r ≡ v → r ≡ family_in ((name, v) ∷ xs) s
@@ -36,7 +27,3 @@ module _ (s : List ℕ) {r : Sys0Info} where
   pub other : r ≡ layout 79 10 0x01 0x23 0x04 0 → r ≡ family_in [] s
   unfolding family_in
   other e = e
-
-  pub of_four : (text : List ℕ) → s ≡ take 4 text → r ≡ family_in families s → r ≡ sys0 text
-  unfolding sys0
-  of_four text e f = f ∙ ap (family_in families) e

@@ -1,7 +1,7 @@
 // Where a processor keeps its file directory, by the family that its type text names.
 #![tactic(auto)]
 
-ghost use Rattle.std.specs.Prelude.{◌≡◌, take};
+ghost use Rattle.std.specs.Prelude.{◌≡◌};
 ghost use Rattle.directory_sys0.specs.Families.{layout, families, family_in, sys0};
 
 // The directory's layout.
@@ -40,16 +40,7 @@ fn info(
     }
 }
 
-// The first four bytes, or all.
-fn first_four(text: &[u8]) -> &[u8]
-    ensures { result.now ≡ take 4 text.now }
-{
-    if text.len() < 4 {
-        return text;
-    }
-    &text[..4]
-}
-
+// The layout of the family with this name.
 fn family_info(family: &[u8]) -> Sys0Info
     ensures { result ≡ family_in families family.now }
 {
@@ -72,8 +63,9 @@ fn family_info(family: &[u8]) -> Sys0Info
 }
 
 // The layout for a processor type, by its first four bytes.
+#[tactic(auto, unfolding(crate::specs::Families::sys0))]
 pub fn sys0_info(plc_type: &[u8]) -> Sys0Info
     ensures { result ≡ sys0 plc_type.now }
 {
-    family_info(first_four(plc_type))
+    family_info(&plc_type[..plc_type.len().min(4)])
 }

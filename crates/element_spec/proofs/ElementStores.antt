@@ -3,7 +3,6 @@ use Prim.Native.Nat.{ℕ, ◌+◌, ◌≤◌, ◌<◌}
 use mathlib.Core.Path.{◌≡◌, refl, sym, subst}
 use mathlib.Core.Bool.{Bool, true, false, cond}
 use mathlib.Core.List.{List}
-use native.Mathlib.Omega.{arith}
 use borrow.Author.Tests.{lt-ltb, le-ltb}
 use lib.IntN.{ℤ}
 use lib.ListN.{length}
@@ -13,51 +12,36 @@ use mir.ValLaws.{to_z-of_z}
 use Rattle.base.specs.Outcome.{Outcome, refused, lays}
 use Rattle.base.proofs.Put.{puts_wrote}
 use Rattle.base.specs.Put.{Puts}
-use Rattle.element_spec.specs.declared.Stored.{Stored}
-use Rattle.element_spec.specs.declared.Stored.TheVariants as stored
-use Rattle.element_whole.specs.declared.Bits.TheVariants as bits
+use Rattle.base.specs.declared.refusal.Refusal.{Refusal}
+use Rattle.base.specs.declared.refusal.Refusal.TheVariants.{NoSuchElement}
+use Rattle.std.specs.Prelude.{Some, None, Result, Ok, Err}
 use Rattle.element_spec.specs.Encode.{Stores, of_bytes}
 use Rattle.element_whole.specs.Whole.{in_range, twos, bits_of}
 
 -- a refusal, and bytes that were laid
-pub no_store : (n : ℕ) (l : List ℕ) {o : Outcome} → o ≡ refused n → Stores o l (stored.Refused n) l
-no_store n l {o} e = subst (λ (x : Outcome). Stores x l (stored.Refused n) l) (sym e) (record { answer = refl; memory = refl })
+pub no_store : (n : Refusal) (l : List ℕ) {o : Outcome} → o ≡ refused n → Stores o l (Err n) l
+no_store n l {o} e = subst (λ (x : Outcome). Stores x l (Err n) l) (sym e) (record { answer = refl; memory = refl })
 
-pub a_store : {l m : List ℕ} {at r : ℕ} {bs : List ℕ} {o : Outcome} → o ≡ lays at bs → Puts l at bs r m → at + length bs ≤ length l → Stores o l stored.Done m
-a_store {l} {m} e w h = subst (λ (x : Outcome). Stores x l stored.Done m) (sym e) (record { answer = refl; memory = (puts_wrote w h).now })
+pub a_store : {l m : List ℕ} {at r : ℕ} {bs : List ℕ} {o : Outcome} → o ≡ lays at bs → Puts l at bs r m → at + length bs ≤ length l → Stores o l (Ok tt) m
+a_store {l} {m} e w h = subst (λ (x : Outcome). Stores x l (Ok tt) m) (sym e) (record { answer = refl; memory = (puts_wrote w h).now })
 
 -- 19, and what comes behind it
 module _ (n : ℕ) (l : List ℕ) (o : Outcome) where
-  pub too_few : length l < n → Stores (of_bytes n l o) l (stored.Refused 19) l
-  too_few h = no_store 19 l (rw (lt-ltb (length l) n h))
+  pub too_few : length l < n → Stores (of_bytes n l o) l (Err NoSuchElement) l
+  too_few h = no_store NoSuchElement l (rw (lt-ltb (length l) n h))
 
-  module _ (h : n ≤ length l) {r : Stored} {m : List ℕ} where
-    pub all_there : Stores o l r m → Stores (of_bytes n l o) l r m
-    all_there w = rw (le-ltb (length l) n h) w
-
-    pub behind_19 : Stores (of_bytes n l o) l r m → Stores o l r m
-    behind_19 w = subst (λ (t : Bool). Stores (cond t (refused 19) o) l r m) (le-ltb (length l) n h) w
+  pub all_there : n ≤ length l → {r : Result (Unit {0}) Refusal} {m : List ℕ} → Stores o l r m → Stores (of_bytes n l o) l r m
+  all_there h w = rw (le-ltb (length l) n h) w
 
 -- ---- the bits of a number
-out_not_in : {b : ℕ} {X : Type 0} → bits.Out ≡ bits.In b → X
-out_not_in e = let z : ◌≡◌ {A = ℕ} 0 1 = cc in absurd (omega arith)
-
 module _ (ones low high : ℕ) (n : ℤ) where
-  pub is_out : bits_of ones low high n ≡ bits.Out → in_range low high n ≡ false
-  unfolding bits_of
-  is_out = go (in_range low high n)
-    where
-      go : (t : Bool) → cond t (bits.In (twos ones n)) bits.Out ≡ bits.Out → t ≡ false
-      go true e = out_not_in (sym e)
-      go false e = refl
-
-  pub is_in : (b : ℕ) → bits_of ones low high n ≡ bits.In b → (in_range low high n ≡ true) × (twos ones n ≡ b)
+  pub is_in : (b : ℕ) → bits_of ones low high n ≡ Some b → (in_range low high n ≡ true) × (twos ones n ≡ b)
   unfolding bits_of
   is_in b = go (in_range low high n)
     where
-      go : (t : Bool) → cond t (bits.In (twos ones n)) bits.Out ≡ bits.In b → (t ≡ true) × (twos ones n ≡ b)
+      go : (t : Bool) → cond t (Some (twos ones n)) None ≡ Some b → (t ≡ true) × (twos ones n ≡ b)
       go true e = (refl, cc)
-      go false e = out_not_in e
+      go false e = cc
 
 -- a signed number is handed on as its bits, and read again
 module _ (n : ℤ) (f : SFits w64 n) where

@@ -7,6 +7,7 @@ use lib.ListN.{replicate}
 use Rattle.base.specs.Chars.{bytes, spelled}
 use Rattle.base.specs.Numbers.{low_first}
 use Rattle.base.specs.Outcome.{refused}
+use Rattle.base.specs.declared.refusal.Refusal.TheVariants.{NumberOutOfRange, UnsuitableKind}
 use Rattle.file_type.specs.declared.FileType.TheVariants.{T, N, MG}
 use Rattle.file_type.specs.Table.{place, of_field}
 use Rattle.element_spec.specs.declared.Value.TheVariants as value
@@ -17,6 +18,6 @@ pub rows :
     ∷ encoded N (value.Field (pos 40000)) (bytes "X") (replicate 6 0)
     ∷ encoded MG (value.Whole (pos 1)) [] (replicate 50 0)
     ∷ [])
-    ≡ (refused 22 ∷ refused 20 ∷ refused 20 ∷ [])
+    ≡ (refused NumberOutOfRange ∷ refused UnsuitableKind ∷ refused UnsuitableKind ∷ [])
 unfolding encoded low_first of_field place spelled
 rows = refl

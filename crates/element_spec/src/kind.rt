@@ -4,7 +4,7 @@ ghost use Rattle.element_spec.specs.Encode.{kind_of};
 
 use file_type::FileType;
 
-#[derive(Clone, Copy)]
+#[derive(Clone, Copy, Debug, PartialEq, Eq)]
 pub enum ElementKind {
     Word,
     Long,
@@ -19,20 +19,12 @@ pub fn kind_of(t: FileType) -> ElementKind
     ensures { result ≡ kind_of t }
 {
     match t {
-        FileType::O => ElementKind::Word,
-        FileType::I => ElementKind::Word,
-        FileType::S => ElementKind::Word,
-        FileType::B => ElementKind::Word,
-        FileType::T => ElementKind::Fields,
-        FileType::C => ElementKind::Fields,
-        FileType::R => ElementKind::Fields,
-        FileType::N => ElementKind::Word,
-        FileType::F => ElementKind::Float,
-        FileType::ST => ElementKind::Line,
-        FileType::A => ElementKind::Ascii,
+        FileType::O | FileType::I | FileType::S | FileType::B | FileType::N => ElementKind::Word,
         FileType::L => ElementKind::Long,
-        FileType::MG => ElementKind::Other,
-        FileType::PD => ElementKind::Other,
-        FileType::PLS => ElementKind::Other,
+        FileType::F => ElementKind::Float,
+        FileType::A => ElementKind::Ascii,
+        FileType::ST => ElementKind::Line,
+        FileType::T | FileType::C | FileType::R => ElementKind::Fields,
+        FileType::MG | FileType::PD | FileType::PLS => ElementKind::Other,
     }
 }

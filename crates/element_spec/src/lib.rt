@@ -4,7 +4,7 @@
 pub mod kind;
 
 // A value to set. Text, and the name of a field, stand beside it.
-#[derive(Clone, Copy)]
+#[derive(Clone, Copy, Debug, PartialEq, Eq)]
 pub enum Value {
     Whole(i64),
     Float(u32),
@@ -13,18 +13,10 @@ pub enum Value {
     Field(i64),
 }
 
-// What setting an element answers: the number of the question that was answered with no, or done.
-#[derive(Clone, Copy)]
-pub enum Stored {
-    Refused(u8),
-    Done,
-}
-
 // What reading an element answers. Text stands in the lent memory, so many bytes of it. Fields: words 1 and 2 of T, C and R,
 // and word 0 with the bits that have no name cleared.
-#[derive(Clone, Copy)]
+#[derive(Clone, Copy, Debug, PartialEq, Eq)]
 pub enum Element {
-    Refused(u8),
     Whole(i32),
     Float(u32),
     Text(usize),

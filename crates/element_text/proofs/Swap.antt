@@ -3,6 +3,8 @@ use Prim.Native.Nat.{ℕ, suc, ◌+◌, ◌-◌, ◌≤◌, ◌<◌}
 use mathlib.Core.Path.{◌≡◌, refl, ap, sym, ◌∙◌}
 use mathlib.Core.List.{List, [], ◌∷◌}
 use native.Mathlib.Omega.{arith}
+use Rattle.std.specs.List.{swap}
+use Rattle.std.proofs.lemmas.List.Edits.{swap_is}
 use lib.ListN.{length, drop, get_or, set, length-set, length-drop}
 use lib.Seq.{drop-set-lt}
 use Rattle.base.specs.Put.{put}
@@ -28,8 +30,8 @@ module _ (s₀ s : List ℕ) (i : ℕ) (inv : put s i (swap_pairs (drop i s)) �
       let e : i + 1 + 1 ≡ i + 2 = omega arith in
       rw (drop_next s i a, drop_next s (i + 1) h, e)
 
-  pub swap_turn : i ≤ length s → 1 < length s - i → put (set (set s i (get_or s (i + 1) 0)) (i + 1) (get_or s i 0)) (i + 2) (swap_pairs (drop (i + 2) (set (set s i (get_or s (i + 1) 0)) (i + 1) (get_or s i 0)))) ≡ swap_pairs s₀
-  swap_turn g h =
+  turn_lem : i + 1 < length s → put (set (set s i (get_or s (i + 1) 0)) (i + 1) (get_or s i 0)) (i + 2) (swap_pairs (drop (i + 2) (set (set s i (get_or s (i + 1) 0)) (i + 1) (get_or s i 0)))) ≡ swap_pairs s₀
+  turn_lem h =
       let n : i + 1 < length (set s i (get_or s (i + 1) 0)) = simp length-set (omega arith) in
       let e : i + 1 + 1 ≡ i + 2 = omega arith in
       let d : drop (i + 2) (set (set s i (get_or s (i + 1) 0)) (i + 1) (get_or s i 0)) ≡ drop (i + 2) s = drop-set-lt (i + 2) (set s i (get_or s (i + 1) 0)) (i + 1) (get_or s i 0) (omega arith) ∙ drop-set-lt (i + 2) s i (get_or s (i + 1) 0) (omega arith) in
@@ -38,6 +40,11 @@ module _ (s₀ s : List ℕ) (i : ℕ) (inv : put s i (swap_pairs (drop i s)) �
       ∙ put_cons s i (get_or s (i + 1) 0) (get_or s i 0 ∷ swap_pairs (drop (i + 2) s)) (omega arith)
       ∙ ap (put s i) (sym (two (omega arith)))
       ∙ inv)
+
+  pub swap_turn : {k : ℕ} → k ≡ i + 2 → i + 1 < length s → put (swap s i (i + 1)) k (swap_pairs (drop k (swap s i (i + 1)))) ≡ swap_pairs s₀
+  swap_turn {k} e h =
+      let t : set (set s i (get_or s (i + 1) 0)) (i + 1) (get_or s i 0) ≡ swap s i (i + 1) = swap_is s i (i + 1) 0 (omega arith) h in
+      rw (sym t, e) (turn_lem h)
 
   last : (l : List ℕ) → length l ≤ 1 → swap_pairs l ≡ l
   unfolding swap_pairs

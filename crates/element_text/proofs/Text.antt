@@ -1,30 +1,23 @@
 -- Laws of the text of A and ST.
-use Prim.Native.Nat.{ℕ, suc, ◌+◌, ◌-◌, ◌%◌, ◌≤◌, ◌<◌, min}
-use mathlib.Core.Path.{◌≡◌, refl, ap, ap₂, sym, ◌∙◌}
-use mathlib.Core.List.{List, [], ◌∷◌, ◌++◌, append_assoc, append-nil}
+use Prim.Native.Nat.{ℕ, ◌+◌, ◌-◌, ◌%◌, ◌≤◌, ◌<◌, min}
+use mathlib.Core.Path.{◌≡◌, refl, ap, sym, ◌∙◌}
+use mathlib.Core.List.{List, [], ◌++◌, append_assoc, append-nil}
 use mathlib.Core.Bool.{Bool, true, false}
 use native.Mathlib.Nat.{zero-add}
 use native.Mathlib.Omega.{arith}
 use borrow.Author.Tests.{lt-ltb, le-ltb, leb-true, leb-false}
 use lib.Dec.{leb, ltb}
-use lib.ListN.{length, take, drop, get_or, replicate, length-append, length-take, length-replicate, drop_of_length-le}
+use lib.ListN.{length, take, drop, replicate, length-append, length-take, length-replicate, drop_of_length-le}
 use lib.Seq.{length-take-le, take_all, take_at, drop_at}
 use Rattle.base.specs.Numbers.{low_first}
 use Rattle.base.specs.Put.{put, Puts}
 use Rattle.base.proofs.Numbers.{low_length, low_zero}
 use Rattle.base.proofs.Parts.{drop_replicate}
 use Rattle.base.proofs.Put.{puts_both, put_first, put_rest, put_length}
-use Rattle.element_text.specs.declared.Swapped.TheVariants as swapped
+use Rattle.std.specs.Prelude.{Ok, Err}
+use Rattle.base.specs.declared.refusal.Refusal.TheVariants.{ShortOutput}
 use Rattle.element_text.specs.Text.{swap_pairs, padded_swap, fitted, ascii_text, string_text, written_of, out_of}
 use Rattle.element_text.proofs.Swap.{swap_length}
-
-pub ascii_is : (s : List ℕ) (a b : ℕ) → a ≡ get_or s 1 32 → b ≡ get_or s 0 32 → (a ∷ b ∷ []) ≡ ascii_text s
-unfolding ascii_text swap_pairs fitted
-ascii_is [] a b e f = ap₂ (λ (x y : ℕ). x ∷ y ∷ []) e f
-ascii_is (x ∷ []) a b e f = ap₂ (λ (x y : ℕ). x ∷ y ∷ []) e f
-ascii_is (x ∷ y ∷ s) a b e f =
-    let n : 2 - suc (suc (length s)) ≡ 0 = omega arith in
-    rw n (ap₂ (λ (x y : ℕ). x ∷ y ∷ []) e f)
 
 -- ---- lengths
 fitted_length : (n fill : ℕ) (s : List ℕ) → length (fitted n fill s) ≡ n
@@ -58,20 +51,20 @@ module _ (s l : List ℕ) where
     pub kept_length : length l₂ ≡ length l
     kept_length = ap length written ∙ put_length l 0 (s ++ replicate (length s % 2) 0) (omega (arith, whole))
 
-    pub swap_done : (part : List ℕ) → part ≡ swap_pairs (take (length s + length s % 2) l₂) → (swapped.Written (length s + length s % 2) ≡ written_of (padded_swap s) l) × (part ++ drop (length s + length s % 2) l₂ ≡ out_of (padded_swap s) l)
+    pub swap_done : (part : List ℕ) → part ≡ swap_pairs (take (length s + length s % 2) l₂) → (Ok (length s + length s % 2) ≡ written_of (padded_swap s) l) × (part ++ drop (length s + length s % 2) l₂ ≡ out_of (padded_swap s) l)
     unfolding padded_swap put
     swap_done part e =
         let n : length (padded_swap s) ≡ length s + length s % 2 = padded_length s in
         let t : ltb (length l) (length (padded_swap s)) ≡ false = le-ltb (length l) (length (padded_swap s)) (rw n h) in
         let x : part ≡ padded_swap s = e ∙ ap swap_pairs (ap (take (length s + length s % 2)) written ∙ put_first l (s ++ replicate (length s % 2) 0) (length s + length s % 2) whole h) in
         let y : drop (length s + length s % 2) l₂ ≡ drop (length s + length s % 2) l = ap (drop (length s + length s % 2)) written ∙ put_rest l (s ++ replicate (length s % 2) 0) (length s + length s % 2) whole h in
-        (rw t (ap swapped.Written (sym n)), rw t (rw (x, y) (ap (λ (k : ℕ). padded_swap s ++ drop k l) (sym (zero-add (length (padded_swap s)) ∙ n)))))
+        (rw t (ap Ok (sym n)), rw t (rw (x, y) (ap (λ (k : ℕ). padded_swap s ++ drop k l) (sym (zero-add (length (padded_swap s)) ∙ n)))))
 
-  pub no_room : length l < length s + length s % 2 → (swapped.Refused 6 ≡ written_of (padded_swap s) l) × (l ≡ out_of (padded_swap s) l)
+  pub no_room : length l < length s + length s % 2 → (Err ShortOutput ≡ written_of (padded_swap s) l) × (l ≡ out_of (padded_swap s) l)
   no_room h = let t : ltb (length l) (length (padded_swap s)) ≡ true = lt-ltb (length l) (length (padded_swap s)) (rw (padded_length s) h) in (rw t, rw t)
 
 -- ---- `encode_pccc_string`
-module _ (s : List ℕ) (n : ℕ) (e : n ≡ min 82 (length s)) where
+module _ (s : List ℕ) (n : ℕ) (e : n ≡ min (length s) 82) where
   pub cut_length : length (take n s) ≡ n
   cut_length = length-take-le n s (omega arith)
 

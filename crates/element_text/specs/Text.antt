@@ -1,9 +1,9 @@
 -- Text as the processor stores it (document 01, "Request bytes" and module 2).
-use Rattle.std.specs.Prelude.{ℕ, ◌-◌, ◌%◌, cond, List, [], ◌∷◌, ◌++◌, ltb, length, take, replicate}
+use Rattle.std.specs.Prelude.{ℕ, ◌-◌, ◌%◌, cond, List, [], ◌∷◌, ◌++◌, ltb, length, take, replicate, Result, Ok, Err}
 use Rattle.base.specs.Numbers.{low_first}
 use Rattle.base.specs.Outcome.{Outcome, refused, lays, left}
-use Rattle.element_text.specs.declared.Swapped.{Swapped}
-use Rattle.element_text.specs.declared.Swapped.TheVariants as swapped
+use Rattle.base.specs.declared.refusal.Refusal.{Refusal}
+use Rattle.base.specs.declared.refusal.Refusal.TheVariants.{ShortOutput}
 
 -- "byte pairs are swapped"; an odd last byte stays (the simulator's `swap_pairs`)
 unfoldable pub swap_pairs : List ℕ → List ℕ
@@ -27,16 +27,16 @@ ascii_text s = swap_pairs (fitted 2 0x20 s)
 unfoldable pub string_text : List ℕ → List ℕ
 string_text s = low_first 2 (length (take 82 s)) ++ swap_pairs (fitted 82 0 s)
 
--- what a call does that writes these bytes: 6 where there is no room for them
+-- what a call does that writes these bytes: 6, ShortOutput, where there is no room for them
 abbrev pub in_room : List ℕ → List ℕ → Outcome
-in_room bs out = cond (ltb (length out) (length bs)) (refused 6) (lays 0 bs)
+in_room bs out = cond (ltb (length out) (length bs)) (refused ShortOutput) (lays 0 bs)
 
 -- what it answers, and the memory that it leaves
-abbrev pub swapped_of : Outcome → Swapped
-swapped_of (refused n) = swapped.Refused n
-swapped_of (lays at bs) = swapped.Written (length bs)
+abbrev pub swapped_of : Outcome → Result ℕ Refusal
+swapped_of (refused e) = Err e
+swapped_of (lays at bs) = Ok (length bs)
 
-abbrev pub written_of : List ℕ → List ℕ → Swapped
+abbrev pub written_of : List ℕ → List ℕ → Result ℕ Refusal
 written_of bs out = swapped_of (in_room bs out)
 
 abbrev pub out_of : List ℕ → List ℕ → List ℕ

@@ -1,7 +1,5 @@
 -- Whole numbers in words and longs, over the width: `ones` is the largest number of the width (document 01, module 2).
-use Rattle.std.specs.Prelude.{ℕ, ◌-◌, ◌*◌, Bool, false, cond, leb, ltb, eqb, ℤ, pos, negsuc}
-use Rattle.element_whole.specs.declared.Bits.{Bits}
-use Rattle.element_whole.specs.declared.Bits.TheVariants as bits
+use Rattle.std.specs.Prelude.{ℕ, ◌-◌, ◌*◌, Bool, false, cond, leb, ltb, eqb, ℤ, pos, negsuc, Option, Some, None}
 use Rattle.element_whole.specs.declared.Parted.{Parted}
 
 -- is a number −low to high? (`negsuc n` is −(n + 1))
@@ -19,8 +17,8 @@ abbrev pub signed : ℕ → ℕ → ℤ
 signed ones n = cond (leb (2 * n) ones) (pos n) (negsuc (ones - n))
 
 -- the bits of a number that is in range
-unfoldable pub bits_of : ℕ → ℕ → ℕ → ℤ → Bits
-bits_of ones low high z = cond (in_range low high z) (bits.In (twos ones z)) bits.Out
+unfoldable pub bits_of : ℕ → ℕ → ℕ → ℤ → Option ℕ
+bits_of ones low high z = cond (in_range low high z) (Some (twos ones z)) None
 
 unfoldable pub is_zero : ℤ → Bool
 is_zero (pos n) = eqb n 0

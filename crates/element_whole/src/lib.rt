@@ -1,11 +1,11 @@
 // Whole numbers and their bits in two's complement.
 #![tactic(auto)]
 
-ghost use Rattle.std.specs.Prelude.{◌≡◌, ◌-◌};
-ghost use Rattle.element_whole.specs.Whole.{joined, bits_of, is_zero as whole_is_zero, signed};
+ghost use Rattle.std.specs.Prelude.{◌≡◌};
+ghost use Rattle.element_whole.specs.Whole.{joined, bits_of, signed};
 
 // A number's sign, and n of n or of -(n + 1).
-#[derive(Clone, Copy)]
+#[derive(Clone, Copy, Debug, PartialEq, Eq)]
 pub struct Parted {
     pub negative: bool,
     pub size: u64,
@@ -27,66 +27,61 @@ pub fn apart(n: i64) -> Parted
 }
 
 // The number that a word stands for.
+#[tactic(auto, using(crate::proofs::Signed::word_signed))]
 pub fn signed_word(w: u16) -> i16
     ensures { result ≡ signed 0xFFFF w }
 {
-    if w < 0x8000 {
-        return w as i16;
-    }
-    -1 - ((0xFFFF - w) as i16)
+    w.cast_signed()
 }
 
 // The number that a long stands for.
+#[tactic(auto, using(crate::proofs::Signed::long_signed))]
 pub fn signed_long(l: u32) -> i32
     ensures { result ≡ signed 0xFFFFFFFF l }
 {
-    if l < 0x8000_0000 {
-        return l as i32;
-    }
-    -1 - ((0xFFFF_FFFF - l) as i32)
+    l.cast_signed()
 }
 
-// The bits of a number, where it is in range.
-#[derive(Clone, Copy)]
-pub enum Bits {
-    In(u64),
-    Out,
+// Whole numbers from -low to high in so many bytes; `ones` is the largest number of that width.
+#[derive(Clone, Copy, Debug, PartialEq, Eq)]
+pub struct WholeKind {
+    pub bytes: usize,
+    pub ones: u64,
+    pub low: u64,
+    pub high: u64,
 }
 
-// The bits in two's complement of a number from -low to high; `ones` is the largest number of the width.
-pub fn bits_of(ones: u64, low: u64, high: u64, n: i64) -> Bits
-    ensures { result ≡ bits_of ones low high n }
-{
-    let p = apart(n);
-    let size = p.size;
-    if p.negative {
-        if low <= size {
-            return Bits::Out;
+pub const WORD: WholeKind = WholeKind {
+    bytes: 2,
+    ones: 0xFFFF,
+    low: 32768,
+    high: 65535,
+};
+
+// Words 1 and 2 of T, C and R, set by their names.
+pub const NAMED_WORD: WholeKind = WholeKind {
+    high: 32767,
+    ..WORD
+};
+
+pub const LONG: WholeKind = WholeKind {
+    bytes: 4,
+    ones: 0xFFFF_FFFF,
+    low: 2147483648,
+    high: 2147483647,
+};
+
+impl WholeKind {
+    // The bits in two's complement of a number that is in range.
+    #[tactic(auto, using(crate::proofs::Signed::same), unfolding(crate::specs::Whole::bits_of))]
+    pub fn bits_of(self, n: i64) -> Option<u64>
+        ensures { result ≡ bits_of self.ones self.low self.high n }
+    {
+        let p = apart(n);
+        if p.negative {
+            (p.size < self.low).then_some(self.ones.saturating_sub(p.size))
+        } else {
+            (p.size <= self.high).then_some(p.size)
         }
-        return Bits::In(minus(ones, size));
     }
-    if high < size {
-        return Bits::Out;
-    }
-    Bits::In(size)
-}
-
-// 0 where b is the larger.
-fn minus(a: u64, b: u64) -> u64
-    ensures { result ≡ a - b }
-{
-    if a < b {
-        return 0;
-    }
-    a - b
-}
-
-pub fn is_zero(n: i64) -> bool
-    ensures { result ≡ whole_is_zero n }
-{
-    let p = apart(n);
-    if p.negative {
-        return false;
-    }
-    p.size == 0
 }

@@ -1,4 +1,3 @@
-pub mod FieldNames
-pub mod Names
 pub mod FileTypes
 pub mod ElementSizes
+pub mod FieldNames

@@ -1,12 +1,9 @@
 -- The file types (document 01, "Request bytes" and module 1): names, codes, element sizes, and the names in T, C and R.
-use Rattle.std.specs.Prelude.{ℕ, suc, ◌-◌, ◌≤◌, ◌≡◌, Bool, true, false, cond, List, [], ◌∷◌, ◌++◌, eqb, ltb, length, take, drop, replicate}
-use Rattle.std.proofs.Math.Option.{Option, none, some}
+use Rattle.std.specs.Prelude.{ℕ, ◌-◌, Bool, true, false, cond, List, [], ◌∷◌, eqb, ltb, take, drop, find, position, Option, None, Some}
+use Rattle.std.specs.Option.{option_map}
 use Rattle.base.specs.Chars.{bytes, spelled}
 use Rattle.file_type.specs.declared.FileType.{FileType}
 use Rattle.file_type.specs.declared.FileType.TheVariants.{O, I, S, B, T, C, R, N, F, ST, A, L, MG, PD, PLS}
-use Rattle.file_type.specs.declared.Known.{Known}
-use Rattle.file_type.specs.declared.Known.TheVariants as known
-use Rattle.file_type.specs.declared.Name.{Name}
 use Rattle.file_type.specs.declared.Field.{Field}
 use Rattle.file_type.specs.declared.Field.TheVariants as field
 
@@ -40,36 +37,22 @@ row PLS = record { name = bytes "PLS"; code = 0x94; size = 12; simulated = false
 abbrev pub all : List FileType
 all = O ∷ I ∷ S ∷ B ∷ T ∷ C ∷ R ∷ N ∷ F ∷ ST ∷ A ∷ L ∷ MG ∷ PD ∷ PLS ∷ []
 
--- a name in three bytes, with zeros behind it
-abbrev pub named : List ℕ → Name
-named s = record { text = s ++ replicate (3 - length s) 0; len = length s }
-
--- `r` is that name
-pub record Named (s : List ℕ) (r : Name) : Type 0 where
-  pub is : r ≡ named s
-  pub fits : r.len ≤ 3
-
--- the first type of a list that passes a test
-unfoldable pub first : (FileType → Bool) → List FileType → Known
-first test [] = known.Unknown
-first test (t ∷ ts) = cond (test t) (known.Is t) (first test ts)
-
 -- the type of a code
-unfoldable pub of_code : ℕ → Known
-of_code c = first (λ (t : FileType). eqb (row t).code c) all
+unfoldable pub of_code : ℕ → Option FileType
+of_code c = find (λ (t : FileType). eqb (row t).code c) all
 
 -- the element size of a type that the simulator knows, 0 where there is none
-abbrev pub simulated_size : Known → ℕ
-simulated_size known.Unknown = 0
-simulated_size (known.Is t) = cond (row t).simulated (row t).size 0
+abbrev pub simulated_size : Option FileType → ℕ
+simulated_size None = 0
+simulated_size (Some t) = cond (row t).simulated (row t).size 0
 
 -- the same by the type code
 unfoldable pub element_size : ℕ → ℕ
 element_size code = simulated_size (of_code code)
 
 -- the type of a name, capital letters only
-unfoldable pub of_name : List ℕ → Known
-of_name s = first (λ (t : FileType). spelled false (row t).name s) all
+unfoldable pub of_name : List ℕ → Option FileType
+of_name s = find (λ (t : FileType). spelled false (row t).name s) all
 
 -- "words 1 and 2 (PRE, ACC; in R: LEN, POS) ..; bits .. from 15 down: T EN TT DN; C CU CD DN OV UN UA; R EN EU DN EM ER UL IN FD"
 abbrev pub field_names : FileType → List (List ℕ)
@@ -97,16 +80,14 @@ word_names t = take 2 (field_names t)
 abbrev pub bit_names : FileType → List (List ℕ)
 bit_names t = drop 2 (field_names t)
 
--- the place of a name in a list whose first place is `i`; "Names in either case"
-unfoldable pub place : ℕ → List (List ℕ) → List ℕ → Option ℕ
-place i [] s = none
-place i (n ∷ ns) s = cond (spelled true n s) (some i) (place (suc i) ns s)
+-- the place of a name among the names; "Names in either case"
+unfoldable pub place : List (List ℕ) → List ℕ → Option ℕ
+place ns s = position (λ (n : List ℕ). spelled true n s) ns
 
 -- the word or bit at a place
-abbrev pub field_at : Option ℕ → Field
-field_at none = field.Unknown
-field_at (some i) = cond (ltb i 2) (field.Word i) (field.Bit (i - 2))
+abbrev pub field_at : ℕ → Field
+field_at i = cond (ltb i 2) (field.Word i) (field.Bit (i - 2))
 
 -- what a name stands for in an element of a type
-unfoldable pub of_field : FileType → List ℕ → Field
-of_field t s = field_at (place 0 (field_names t) s)
+unfoldable pub of_field : FileType → List ℕ → Option Field
+of_field t s = option_map field_at (place (field_names t) s)

@@ -7,7 +7,8 @@ ghost use Rattle.file_type.specs.Table.{of_code};
 ghost use Rattle.link_elements.specs.ElementRecords.{StoresInNumbers, ReadsInNumbers};
 ghost use Rattle.link_element_access.specs.AccessByCode.{no_type, spot_of, setting_of, read_in_by, set_in_by};
 
-use file_type::{FileType, Known};
+use base::Refusal;
+use file_type::FileType;
 use link_elements::{SlcElement, SlcValue};
 use processor_element_core::{Setting, Spot};
 use processor_spec::Slc;
@@ -33,13 +34,13 @@ pub struct SlcSetting {
 }
 
 // A code that no type has: 16, then 19.
-fn no_type(slc: Slc, s: Seen, memory_length: usize, log: &[u8]) -> u8
+fn no_type(slc: Slc, s: Seen, memory_length: usize, log: &[u8]) -> Refusal
     ensures { result ≡ no_type (sound_by slc s memory_length log.now) }
 {
     if processor_soundness::sound(slc, s, memory_length, log) {
-        return 19;
+        return Refusal::NoSuchElement;
     }
-    16
+    Refusal::Unsound
 }
 
 fn spot_of(t: FileType, w: SlcSpot) -> Spot
@@ -55,12 +56,11 @@ fn spot_of(t: FileType, w: SlcSpot) -> Spot
 fn setting_of(t: FileType, w: SlcSetting) -> Setting
     ensures { result ≡ setting_of t w }
 {
-    let v = w.value;
     Setting {
         number: w.number,
         file_type: t,
         element: w.element,
-        value: link_elements::value_of(t, v),
+        value: link_elements::value_of(t, w.value),
     }
 }
 
@@ -75,15 +75,16 @@ pub fn read_element(
 ) -> SlcElement
     ensures { ReadsInNumbers (read_in_by (of_code w.code) slc s w memory.now log.now (length text.old)) text.old result text.new }
 {
-    let k = FileType::from_code(w.code);
-    match k {
-        Known::Is(t) => {
-            let at = spot_of(t, w);
-            link_elements::numbers_of(processor_element_core::read_element(
-                slc, s, memory, log, at, text,
-            ))
-        }
-        Known::Unknown => link_elements::refusal(no_type(slc, s, memory.len(), log)),
+    match FileType::from_code(w.code) {
+        Some(t) => link_elements::numbers_of(processor_element_core::read_element(
+            slc,
+            s,
+            memory,
+            log,
+            spot_of(t, w),
+            text,
+        )),
+        None => link_elements::numbers_of(Err(no_type(slc, s, memory.len(), log))),
     }
 }
 
@@ -98,14 +99,15 @@ pub fn set_element(
 ) -> u8
     ensures { StoresInNumbers (set_in_by (of_code w.code) slc s w memory.old log.now text.now) memory.old result memory.new }
 {
-    let k = FileType::from_code(w.code);
-    match k {
-        Known::Is(t) => {
-            let to = setting_of(t, w);
-            link_elements::stored_number(processor_element_core::set_element(
-                slc, s, memory, log, to, text,
-            ))
-        }
-        Known::Unknown => no_type(slc, s, memory.len(), log),
+    match FileType::from_code(w.code) {
+        Some(t) => link_elements::stored_number(processor_element_core::set_element(
+            slc,
+            s,
+            memory,
+            log,
+            setting_of(t, w),
+            text,
+        )),
+        None => link_elements::stored_number(Err(no_type(slc, s, memory.len(), log))),
     }
 }

@@ -4,10 +4,11 @@
 ghost use Rattle.std.specs.Prelude.{◌≡◌, length};
 ghost use Rattle.element_spec.specs.Decode.{decoded};
 ghost use Rattle.element_spec.specs.Encode.{encoded};
-ghost use Rattle.link_elements.specs.ElementRecords.{low_half, misfit_of, value_of, stored_number, refusal_of, numbers_of, StoresInNumbers, ReadsInNumbers};
+ghost use Rattle.link_elements.specs.ElementRecords.{low_half, misfit_of, value_of, stored_number, numbers_of, StoresInNumbers, ReadsInNumbers};
 
+use base::Refusal;
 use element_spec::kind::ElementKind;
-use element_spec::{Element, Stored, Value};
+use element_spec::{Element, Value};
 use file_type::FileType;
 
 const WHOLE: u8 = 0;
@@ -44,132 +45,92 @@ pub struct SlcElement {
     pub status: u16,
 }
 
+const NOTHING: SlcElement = SlcElement {
+    refused: 0,
+    kind: WHOLE,
+    whole: 0,
+    bits: 0,
+    length: 0,
+    word1: 0,
+    word2: 0,
+    status: 0,
+};
+
 // The low 32 bits of a number in two's complement.
+#[tactic(auto, using(crate::proofs::ElementRecords::half))]
 fn low_half(n: i64) -> u32
     ensures { result ≡ low_half n }
 {
-    let p = element_whole::apart(n);
-    let size = p.size;
-    if p.negative {
-        return ((0xFFFF_FFFF_FFFF_FFFF - size) % 0x1_0000_0000) as u32;
-    }
-    (size % 0x1_0000_0000) as u32
+    (n.cast_unsigned() % 0x1_0000_0000) as u32
 }
 
-// A value that doesn't suit the type.
+// A value that doesn't suit the type: text suits A and ST alone.
+#[tactic(auto, using(crate::proofs::ElementRecords::text_misfit), unfolding(crate::specs::ElementRecords::misfit_of))]
 fn misfit(t: FileType) -> Value
     ensures { result ≡ misfit_of t }
 {
-    let k = element_spec::kind::kind_of(t);
-    match k {
-        ElementKind::Word => Value::Text,
-        ElementKind::Long => Value::Text,
-        ElementKind::Float => Value::Text,
-        ElementKind::Ascii => Value::Float(0),
-        ElementKind::Line => Value::Float(0),
-        ElementKind::Fields => Value::Text,
-        ElementKind::Other => Value::Text,
+    match element_spec::kind::kind_of(t) {
+        ElementKind::Ascii | ElementKind::Line => Value::Float(0),
+        _ => Value::Text,
     }
 }
 
 // The value; one of an unknown kind suits no type.
+#[tactic(auto, unfolding(crate::specs::ElementRecords::value_of))]
 pub fn value_of(t: FileType, v: SlcValue) -> Value
     ensures { result ≡ value_of t v }
 {
-    let kind = v.kind;
-    if kind == WHOLE {
-        return Value::Whole(v.a);
-    }
-    if kind == FLOAT {
-        return Value::Float(low_half(v.a));
-    }
-    if kind == TEXT {
-        return Value::Text;
-    }
-    if kind == WORDS {
-        return Value::Words(v.a, v.b, v.c);
-    }
-    if kind == FIELD {
-        return Value::Field(v.a);
-    }
-    misfit(t)
-}
-
-pub fn stored_number(s: Stored) -> u8
-    ensures { result ≡ stored_number s }
-{
-    match s {
-        Stored::Refused(n) => n,
-        Stored::Done => 0,
+    match v.kind {
+        WHOLE => Value::Whole(v.a),
+        FLOAT => Value::Float(low_half(v.a)),
+        TEXT => Value::Text,
+        WORDS => Value::Words(v.a, v.b, v.c),
+        FIELD => Value::Field(v.a),
+        _ => misfit(t),
     }
 }
 
-// Nothing but the number of a refusal.
-pub fn refusal(n: u8) -> SlcElement
-    ensures { result ≡ refusal_of n }
+pub fn stored_number(r: Result<(), Refusal>) -> u8
+    ensures { result ≡ stored_number r }
 {
-    SlcElement {
-        refused: n,
-        kind: 0,
-        whole: 0,
-        bits: 0,
-        length: 0,
-        word1: 0,
-        word2: 0,
-        status: 0,
+    match r {
+        Ok(()) => 0,
+        Err(e) => e.number(),
     }
 }
 
-fn whole_number(n: i32) -> SlcElement
-    ensures { result ≡ numbers_of (Element.Whole n) }
+#[tactic(auto, unfolding(crate::specs::ElementRecords::numbers_of))]
+pub fn numbers_of(r: Result<Element, Refusal>) -> SlcElement
+    ensures { result ≡ numbers_of r }
 {
-    let mut e = refusal(0);
-    e.whole = n;
-    e
-}
-
-fn float_bits(b: u32) -> SlcElement
-    ensures { result ≡ numbers_of (Element.Float b) }
-{
-    let mut e = refusal(0);
-    e.kind = FLOAT;
-    e.bits = b;
-    e
-}
-
-fn text_length(n: usize) -> SlcElement
-    ensures { result ≡ numbers_of (Element.Text n) }
-{
-    let mut e = refusal(0);
-    e.kind = TEXT;
-    e.length = n;
-    e
-}
-
-fn fields(first: i16, second: i16, bits: u16) -> SlcElement
-    ensures { result ≡ numbers_of (Element.Fields first second bits) }
-{
-    let mut e = refusal(0);
-    e.kind = FIELD;
-    e.word1 = first;
-    e.word2 = second;
-    e.status = bits;
-    e
-}
-
-pub fn numbers_of(e: Element) -> SlcElement
-    ensures { result ≡ numbers_of e }
-{
-    match e {
-        Element::Refused(n) => refusal(n),
-        Element::Whole(n) => whole_number(n),
-        Element::Float(b) => float_bits(b),
-        Element::Text(n) => text_length(n),
-        Element::Fields(first, second, bits) => fields(first, second, bits),
+    match r {
+        Err(e) => SlcElement {
+            refused: e.number(),
+            ..NOTHING
+        },
+        Ok(Element::Whole(whole)) => SlcElement { whole, ..NOTHING },
+        Ok(Element::Float(bits)) => SlcElement {
+            kind: FLOAT,
+            bits,
+            ..NOTHING
+        },
+        Ok(Element::Text(length)) => SlcElement {
+            kind: TEXT,
+            length,
+            ..NOTHING
+        },
+        Ok(Element::Fields(word1, word2, status)) => SlcElement {
+            kind: FIELD,
+            word1,
+            word2,
+            status,
+            ..NOTHING
+        },
     }
 }
 
 // The bytes of one element, set from a value.
+#[tactic(auto, using(crate::proofs::ElementRecords::encoded_in_lem))]
 pub fn encode_element(t: FileType, v: SlcValue, text: &[u8], element: &mut [u8]) -> u8
     ensures { StoresInNumbers (encoded t (value_of t v) text.now element.old) element.old result element.new }
 {
@@ -177,6 +138,7 @@ pub fn encode_element(t: FileType, v: SlcValue, text: &[u8], element: &mut [u8])
 }
 
 // The bytes of one element, read.
+#[tactic(auto, using(crate::proofs::ElementRecords::in_numbers_lem))]
 pub fn decode_element(t: FileType, element: &[u8], text: &mut [u8]) -> SlcElement
     ensures { ReadsInNumbers (decoded t element.now (length text.old)) text.old result text.new }
 {

@@ -1,13 +1,10 @@
 -- What the calls of the processor answer, in the numbers of the C interface (slc_link.h).
-use Rattle.std.specs.Prelude.{ℕ, ◌≡◌, List}
-use Rattle.processor_build_spec.specs.Plans.{Ended}
-use Rattle.processor_spec.specs.declared.Answered.{Answered}
-use Rattle.processor_spec.specs.declared.Answered.TheVariants as answered
+use Rattle.std.specs.Prelude.{ℕ, ◌≡◌, List, Result, Ok, Err}
+use Rattle.base.specs.Refusals.{number_of}
+use Rattle.base.specs.declared.refusal.Refusal.{Refusal}
 use Rattle.processor_spec.specs.declared.Built.{Built}
 use Rattle.processor_spec.specs.declared.Done.{Done}
 use Rattle.processor_spec.specs.declared.FileRecord.{FileRecord}
-use Rattle.processor_spec.specs.declared.Made.{Made}
-use Rattle.processor_spec.specs.declared.Made.TheVariants as made
 use Rattle.processor_spec.specs.declared.Slc.{Slc}
 use Rattle.processor_spec.specs.Build.{Raised}
 use Rattle.processor_spec.specs.Pccc.{Left, left, pccc_of}
@@ -15,9 +12,9 @@ use Rattle.link_processor.specs.declared.SlcBuilt.{SlcBuilt}
 use Rattle.link_processor.specs.declared.SlcDone.{SlcDone}
 
 -- "`refused` is 0, or the number of the question of document 01 that was answered with no; .. its other fields are 0"
-abbrev pub answered_to : Slc → Answered → SlcDone
-answered_to slc (answered.Refused n) = record { slc = slc; refused = n; length = 0 }
-answered_to slc (answered.Reply k) = record { slc = slc; refused = 0; length = k }
+abbrev pub answered_to : Slc → Result ℕ Refusal → SlcDone
+answered_to slc (Err e) = record { slc = slc; refused = number_of e; length = 0 }
+answered_to slc (Ok k) = record { slc = slc; refused = 0; length = k }
 
 unfoldable pub done_of : Done → SlcDone
 done_of d = answered_to d.slc d.answered
@@ -31,17 +28,12 @@ abbrev pub SaysInNumbers : Slc → List FileRecord → List ℕ → List ℕ →
 SaysInNumbers slc table memory log command reply r memory' reply' = left r memory' reply' ≡ numbered (pccc_of slc table memory log command reply)
 
 -- what building answers
-abbrev pub made_to : Slc → Made → SlcBuilt
-made_to slc (made.Refused n) = record { slc = slc; refused = n }
-made_to slc made.Ready = record { slc = slc; refused = 0 }
+abbrev pub made_to : Slc → Result (Unit {0}) Refusal → SlcBuilt
+made_to slc (Err e) = record { slc = slc; refused = number_of e }
+made_to slc (Ok _) = record { slc = slc; refused = 0 }
 
 unfoldable pub built_of : Built → SlcBuilt
 built_of b = made_to b.slc b.made
-
--- the last part of building gives the answer and the data memory
-pub record Finished (e : Ended) (r : SlcBuilt) (memory' : List ℕ) : Type 0 where
-  pub answer : r ≡ built_of e.built
-  pub memory : memory' ≡ e.memory
 
 -- What the exported call that builds ensures: the answer, and the table and the data memory as it leaves them.
 pub record Raises (x : Raised) (r : SlcBuilt) (table' : List FileRecord) (memory' : List ℕ) : Type 0 where

@@ -1,3 +1,2 @@
 pub mod OfKind
-pub mod RequestRecords
 pub mod RequestAnswers

@@ -1,20 +1,18 @@
 -- The records of an address and of a request. Refused: the number, and 0 for all else.
-use Rattle.std.specs.Prelude.{ℕ, ◌≡◌, List}
+use Rattle.std.specs.Prelude.{ℕ, ◌≡◌, List, Result, Ok, Err}
+use Rattle.base.specs.Refusals.{number_of}
+use Rattle.base.specs.declared.refusal.Refusal.{Refusal}
 use Rattle.file_type.specs.Table.{row}
 use Rattle.address_spec.specs.declared.Address.{Address}
-use Rattle.address_spec.specs.declared.Parsed.{Parsed}
-use Rattle.address_spec.specs.declared.Parsed.TheVariants as parsed
 use Rattle.address_spec.specs.Spelling.{present, or_zero}
-use Rattle.request_spec.specs.declared.Request.{Request}
-use Rattle.request_spec.specs.declared.Request.TheVariants as request
 use Rattle.request_spec.specs.Request.{Asked, request_of, left}
 use Rattle.link_types.specs.Types.{flag}
 use Rattle.link_requests.specs.declared.requests.SlcAddress.{SlcAddress}
 use Rattle.link_requests.specs.declared.requests.SlcRequest.{SlcRequest}
 
-unfoldable pub no_address : ℕ → SlcAddress
-no_address n = record {
-  refused = n;
+unfoldable pub no_address : Refusal → SlcAddress
+no_address e = record {
+  refused = number_of e;
   code = 0;
   file_number = 0;
   element_number = 0;
@@ -43,13 +41,13 @@ full_address x = record {
   kept = x.kept;
 }
 
-abbrev pub address_record : Parsed → SlcAddress
-address_record (parsed.Refused n) = no_address n
-address_record (parsed.Is x) = full_address x
+abbrev pub address_record : Result Address Refusal → SlcAddress
+address_record (Err e) = no_address e
+address_record (Ok x) = full_address x
 
-abbrev pub request_record : Request → SlcRequest
-request_record (request.Refused n) = record { address = no_address n; length = 0 }
-request_record (request.Built x n) = record { address = full_address x; length = n }
+abbrev pub request_record : Result (Address × ℕ) Refusal → SlcRequest
+request_record (Err e) = record { address = no_address e; length = 0 }
+request_record (Ok (x, n)) = record { address = full_address x; length = n }
 
 -- what a request builder answers and leaves in the lent memory
 pub record Asks (o : Asked) (l : List ℕ) (r : SlcRequest) (l' : List ℕ) : Type 0 where

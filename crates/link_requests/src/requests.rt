@@ -1,11 +1,9 @@
 // Addresses and requests.
 ghost use Rattle.std.specs.Prelude.{◌≡◌};
-ghost use Rattle.address_spec.specs.Spelling.{present};
-ghost use Rattle.link_types.specs.Types.{flag};
 ghost use Rattle.link_requests.specs.RequestRecords.{no_address, full_address, address_record, request_record};
 
-use address::{Address, Maybe, Parsed};
-use request::Request;
+use address::Address;
+use base::Refusal;
 
 // What may be missing is 0, beside a 0.
 #[repr(C)]
@@ -32,11 +30,12 @@ pub struct SlcRequest {
     pub length: usize,
 }
 
-fn no_address(n: u8) -> SlcAddress
-    ensures { result ≡ no_address n }
+#[tactic(auto, unfolding(crate::specs::RequestRecords::no_address))]
+fn no_address(e: Refusal) -> SlcAddress
+    ensures { result ≡ no_address e }
 {
     SlcAddress {
-        refused: n,
+        refused: e.number(),
         code: 0,
         file_number: 0,
         element_number: 0,
@@ -50,56 +49,45 @@ fn no_address(n: u8) -> SlcAddress
     }
 }
 
-fn is_there(n: Maybe) -> u8
-    ensures { result ≡ flag (present n) }
-{
-    match n {
-        Maybe::Missing => 0,
-        Maybe::Is(_) => 1,
-    }
-}
-
+#[tactic(auto, unfolding(crate::specs::RequestRecords::full_address))]
 fn full_address(x: Address) -> SlcAddress
     ensures { result ≡ full_address x }
 {
-    let t = x.file_type;
-    let position = x.pos_number;
-    let sub = x.sub_element;
     SlcAddress {
         refused: 0,
-        code: t.code(),
+        code: x.file_type.code(),
         file_number: x.file_number,
         element_number: x.element_number,
-        has_position: is_there(position),
-        position: address_spec::or_zero(position),
-        has_sub_element: is_there(sub),
-        sub_element: address_spec::or_zero(sub),
-        bit: x.bit as u8,
+        has_position: u8::from(x.pos_number.is_some()),
+        position: x.pos_number.unwrap_or(0),
+        has_sub_element: u8::from(x.sub_element.is_some()),
+        sub_element: x.sub_element.unwrap_or(0),
+        bit: u8::from(x.bit),
         element_count: x.element_count,
         kept: x.kept,
     }
 }
 
-pub fn address_record(p: Parsed) -> SlcAddress
-    ensures { result ≡ address_record p }
+pub fn address_record(r: Result<Address, Refusal>) -> SlcAddress
+    ensures { result ≡ address_record r }
 {
-    match p {
-        Parsed::Refused(n) => no_address(n),
-        Parsed::Is(x) => full_address(x),
+    match r {
+        Ok(x) => full_address(x),
+        Err(e) => no_address(e),
     }
 }
 
-pub fn request_record(m: Request) -> SlcRequest
-    ensures { result ≡ request_record m }
+pub fn request_record(r: Result<(Address, usize), Refusal>) -> SlcRequest
+    ensures { result ≡ request_record r }
 {
-    match m {
-        Request::Refused(n) => SlcRequest {
-            address: no_address(n),
-            length: 0,
-        },
-        Request::Built(x, n) => SlcRequest {
+    match r {
+        Ok((x, length)) => SlcRequest {
             address: full_address(x),
-            length: n,
+            length,
+        },
+        Err(e) => SlcRequest {
+            address: no_address(e),
+            length: 0,
         },
     }
 }

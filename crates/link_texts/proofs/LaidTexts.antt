@@ -1,10 +1,10 @@
 -- Bytes laid where there is room for them, and the part of a reply that is its datalog entry.
-use Prim.Native.Nat.{ℕ, ◌+◌, ◌-◌, ◌≤◌, ◌<◌, min}
+use Prim.Native.Nat.{ℕ, ◌+◌, ◌-◌, ◌≤◌, min}
 use mathlib.Core.Path.{◌≡◌, refl, ap, sym, ◌∙◌}
 use mathlib.Core.List.{List, [], ◌∷◌}
 use native.Mathlib.Nat.{zero-add}
 use native.Mathlib.Omega.{arith}
-use borrow.Author.Tests.{lt-ltb, le-ltb}
+use borrow.Author.Tests.{le-ltb}
 use lib.ListN.{length, take, drop, length-drop}
 use Rattle.base.proofs.Put.{puts_wrote}
 use Rattle.base.specs.Put.{Wrote, Puts}
@@ -15,9 +15,6 @@ use Rattle.link_texts.specs.declared.SlcPart.{SlcPart}
 use Rattle.link_texts.specs.WrittenRecords.{written, end_part, part_of, reply_part, Swaps}
 
 module _ (bs l : List ℕ) where
-  pub no_room : {r : SlcWritten} → length l < length bs → r ≡ written 6 0 → Swaps bs l r l
-  no_room h e = record { answer = rw (lt-ltb _ _ h) e; memory = rw (lt-ltb _ _ h) }
-
   pub laid : {r : SlcWritten} {n : ℕ} {l' : List ℕ} → length bs ≤ length l → Puts l 0 bs n l' → r ≡ written 0 n → Swaps bs l r l'
   laid h p e =
       let w : Wrote l 0 bs _ _ = puts_wrote p (omega arith) in

@@ -1,24 +1,13 @@
 -- The records of answers that count what was written, and of the datalog's part and the directory's size. Refused: the number, and 0 for all else.
-use Rattle.std.specs.Prelude.{ℕ, ◌-◌, ◌≡◌, List, pos, length}
-use Rattle.std.proofs.Math.Option.{Option}
+use Rattle.std.specs.Prelude.{ℕ, ◌-◌, ◌≡◌, List, ℤ, pos, length, Option, None, Some, Result, Ok, Err}
 use Rattle.base.specs.Outcome.{Outcome, left}
-use Rattle.address_readings.specs.declared.Dotted.{Dotted}
-use Rattle.address_readings.specs.declared.Dotted.TheVariants as dotted
+use Rattle.base.specs.Refusals.{number_of}
+use Rattle.base.specs.declared.refusal.Refusal.{Refusal}
 use Rattle.address_dotted.specs.DottedAnswers.{dotted_of}
-use Rattle.directory_size.specs.declared.DirectorySize.{DirectorySize}
-use Rattle.directory_size.specs.declared.DirectorySize.TheVariants as size
-use Rattle.directory.specs.declared.Listed.{Listed}
-use Rattle.directory.specs.declared.Listed.TheVariants as listed
 use Rattle.directory.specs.Rows as rows
-use Rattle.request_untagged.specs.declared.Message.{Message}
-use Rattle.request_untagged.specs.declared.Message.TheVariants as message
 use Rattle.request_untagged.specs.Requests.{message_of}
-use Rattle.reply_status_text.specs.declared.StatusText.{StatusText}
-use Rattle.reply_status_text.specs.declared.StatusText.TheVariants as status
 use Rattle.reply_status_text.specs.Texts.{answer_of, left_of}
 use Rattle.reply.specs.Status.{datalog_entry, reply_datalog}
-use Rattle.element_text.specs.declared.Swapped.{Swapped}
-use Rattle.element_text.specs.declared.Swapped.TheVariants as swapped
 use Rattle.element_text.specs.Text.{written_of, out_of}
 use Rattle.link_texts.specs.declared.SlcDirectorySize.{SlcDirectorySize}
 use Rattle.link_texts.specs.declared.SlcPart.{SlcPart}
@@ -27,31 +16,20 @@ use Rattle.link_texts.specs.declared.SlcWritten.{SlcWritten}
 abbrev pub written : ℕ → ℕ → SlcWritten
 written n count = record { refused = n; length = count }
 
-abbrev pub swapped_record : Swapped → SlcWritten
-swapped_record (swapped.Refused n) = written n 0
-swapped_record (swapped.Written n) = written 0 n
-
-abbrev pub dotted_record : Dotted → SlcWritten
-dotted_record (dotted.Refused n) = written n 0
-dotted_record (dotted.Written n) = written 0 n
-
-abbrev pub message_record : Message → SlcWritten
-message_record (message.Refused n) = written n 0
-message_record (message.Written n) = written 0 n
+-- bytes swapped or laid, a text with a full stop, a request, the files of a directory
+abbrev pub written_record : Result ℕ Refusal → SlcWritten
+written_record (Err e) = written (number_of e) 0
+written_record (Ok n) = written 0 n
 
 -- a status that has no text: 0 bytes
-abbrev pub status_record : StatusText → SlcWritten
-status_record status.Nothing = written 0 0
-status_record (status.Written n) = written 0 n
-status_record (status.Refused n) = written n 0
+abbrev pub status_record : Result (Option ℕ) Refusal → SlcWritten
+status_record (Err e) = written (number_of e) 0
+status_record (Ok None) = written 0 0
+status_record (Ok (Some n)) = written 0 n
 
-abbrev pub listed_record : Listed → SlcWritten
-listed_record (listed.Refused n) = written n 0
-listed_record (listed.Files n) = written 0 n
-
-abbrev pub size_record : DirectorySize → SlcDirectorySize
-size_record (size.Refused n) = record { refused = n; bytes = pos 0 }
-size_record (size.Bytes z) = record { refused = 0; bytes = z }
+abbrev pub size_record : Result ℤ Refusal → SlcDirectorySize
+size_record (Err e) = record { refused = number_of e; bytes = pos 0 }
+size_record (Ok z) = record { refused = 0; bytes = z }
 
 -- the part of the caller's bytes that stands at their end
 abbrev pub end_part : List ℕ → List ℕ → SlcPart
@@ -68,17 +46,17 @@ reply_part reply = end_part reply (reply_datalog reply)
 -- ---- what calls answer and leave in the lent memory
 -- these bytes, where there is room for them
 pub record Swaps (bs l : List ℕ) (r : SlcWritten) (l' : List ℕ) : Type 0 where
-  pub answer : r ≡ swapped_record (written_of bs l)
+  pub answer : r ≡ written_record (written_of bs l)
   pub memory : l' ≡ out_of bs l
 
 -- an address's text
 pub record Dots (o : Outcome) (l : List ℕ) (r : SlcWritten) (l' : List ℕ) : Type 0 where
-  pub answer : r ≡ dotted_record (dotted_of o)
+  pub answer : r ≡ written_record (dotted_of o)
   pub memory : l' ≡ left o l
 
 -- a request
 pub record Sends (o : Outcome) (l : List ℕ) (r : SlcWritten) (l' : List ℕ) : Type 0 where
-  pub answer : r ≡ message_record (message_of o)
+  pub answer : r ≡ written_record (message_of o)
   pub memory : l' ≡ left o l
 
 -- a status text
@@ -88,5 +66,5 @@ pub record Says (text : Option (List ℕ)) (l : List ℕ) (r : SlcWritten) (l' :
 
 -- the files of a directory
 pub record Lists (o : rows.Says) (l : List (List ℕ)) (r : SlcWritten) (l' : List (List ℕ)) : Type 0 where
-  pub answer : r ≡ listed_record (rows.answer_of o)
+  pub answer : r ≡ written_record (rows.answer_of o)
   pub memory : l' ≡ rows.left_of o l

@@ -3,14 +3,9 @@
 #![tactic(auto)]
 
 ghost use Rattle.std.specs.Prelude.{◌≡◌, ◌≤◌, length};
-ghost use Rattle.link_texts.specs.WrittenRecords.{swapped_record, dotted_record, message_record, status_record, listed_record, size_record, end_part, part_of, reply_part, written, Swaps};
+ghost use Rattle.link_texts.specs.WrittenRecords.{written, written_record, status_record, size_record, end_part, part_of, reply_part, Swaps};
 
-use address_readings::Dotted;
-use directory::Listed;
-use directory_size::DirectorySize;
-use element_text::Swapped;
-use reply_status_text::StatusText;
-use request_untagged::Message;
+use base::Refusal;
 
 // How many bytes or files were written.
 #[repr(C)]
@@ -35,81 +30,36 @@ pub struct SlcDirectorySize {
     pub bytes: i32,
 }
 
-fn refused(n: u8) -> SlcWritten
-    ensures { result ≡ written n 0 }
+fn written(refused: u8, length: usize) -> SlcWritten
+    ensures { result ≡ written refused length }
 {
-    SlcWritten {
-        refused: n,
-        length: 0,
+    SlcWritten { refused, length }
+}
+
+pub fn written_record(r: Result<usize, Refusal>) -> SlcWritten
+    ensures { result ≡ written_record r }
+{
+    match r {
+        Ok(n) => written(0, n),
+        Err(e) => written(e.number(), 0),
     }
 }
 
-fn wrote(n: usize) -> SlcWritten
-    ensures { result ≡ written 0 n }
+// Where there is nothing to say, 0 bytes.
+pub fn status_record(r: Result<Option<usize>, Refusal>) -> SlcWritten
+    ensures { result ≡ status_record r }
 {
-    SlcWritten {
-        refused: 0,
-        length: n,
-    }
+    written_record(r.map(|n| n.unwrap_or(0)))
 }
 
-pub fn swapped_record(m: Swapped) -> SlcWritten
-    ensures { result ≡ swapped_record m }
+pub fn size_record(r: Result<i32, Refusal>) -> SlcDirectorySize
+    ensures { result ≡ size_record r }
 {
-    match m {
-        Swapped::Refused(n) => refused(n),
-        Swapped::Written(n) => wrote(n),
-    }
-}
-
-pub fn dotted_record(m: Dotted) -> SlcWritten
-    ensures { result ≡ dotted_record m }
-{
-    match m {
-        Dotted::Refused(n) => refused(n),
-        Dotted::Written(n) => wrote(n),
-    }
-}
-
-pub fn message_record(m: Message) -> SlcWritten
-    ensures { result ≡ message_record m }
-{
-    match m {
-        Message::Refused(n) => refused(n),
-        Message::Written(n) => wrote(n),
-    }
-}
-
-pub fn status_record(m: StatusText) -> SlcWritten
-    ensures { result ≡ status_record m }
-{
-    match m {
-        StatusText::Nothing => wrote(0),
-        StatusText::Written(n) => wrote(n),
-        StatusText::Refused(n) => refused(n),
-    }
-}
-
-pub fn listed_record(m: Listed) -> SlcWritten
-    ensures { result ≡ listed_record m }
-{
-    match m {
-        Listed::Refused(n) => refused(n),
-        Listed::Files(n) => wrote(n),
-    }
-}
-
-pub fn size_record(m: DirectorySize) -> SlcDirectorySize
-    ensures { result ≡ size_record m }
-{
-    match m {
-        DirectorySize::Refused(n) => SlcDirectorySize {
-            refused: n,
+    match r {
+        Ok(bytes) => SlcDirectorySize { refused: 0, bytes },
+        Err(e) => SlcDirectorySize {
+            refused: e.number(),
             bytes: 0,
-        },
-        DirectorySize::Bytes(n) => SlcDirectorySize {
-            refused: 0,
-            bytes: n,
         },
     }
 }
@@ -144,7 +94,7 @@ pub fn laid(bytes: &[u8], out: &mut [u8]) -> SlcWritten
     ensures { Swaps bytes.now out.old result out.new }
 {
     if out.len() < bytes.len() {
-        return refused(6);
+        return written_record(Err(Refusal::ShortOutput));
     }
-    wrote(base::put_all(out, 0, bytes))
+    written_record(Ok(base::put_all(out, 0, bytes)))
 }

@@ -1,27 +1,21 @@
--- The record of an answer, by the answer's case.
-use Prim.Native.Nat.{ℕ}
-use mathlib.Core.Path.{◌≡◌, refl, ap, sym, ◌∙◌}
-use mathlib.Core.Bool.{Bool, true, false}
-use mathlib.Core.List.{List}
-use native.Mathlib.Omega.{arith}
-use mir.Syntax.{w8}
-use mir.Val.{Fits, bool_byte}
-use lib.ListN.{length}
-use Rattle.file_type.specs.declared.Field.{Field}
+-- The names and numbers of a type fit its record.
+use Rattle.std.proofs.Common.{ℕ, zero, suc, ◌≡◌, ◌≤◌, refl, ap, ◌∙◌, Bool, true, false, List, [], ◌∷◌, length, get_or, arith, Option, Fits, w8}
+use Rattle.std.specs.List.{list_all, slice_get}
+use Rattle.std.specs.Option.{unwrap_or}
+use Rattle.std.proofs.lemmas.Bool.{and_parts}
+use Rattle.std.proofs.lemmas.Option.{unwrap_or-slice_get}
+use borrow.Author.Tests.{leb-true}
+use lib.Dec.{leb}
+use mir.Val.{bool_byte}
 use Rattle.file_type.specs.declared.FileType.{FileType}
-use Rattle.file_type.specs.declared.Known.{Known}
-use Rattle.file_type.specs.declared.Known.TheVariants as known
-use Rattle.file_type.specs.declared.Name.{Name}
-use Rattle.file_type.specs.Table.{row, bit_names, Named}
+use Rattle.file_type.specs.Table.{row, bit_names, word_names}
 use Rattle.file_type.proofs.FieldNames.{bits_most}
-use Rattle.file_type.proofs.FileTypes.{size_most}
-use Rattle.link_types.specs.declared.SlcField.{SlcField}
-use Rattle.link_types.specs.declared.SlcName.{SlcName}
-use Rattle.link_types.specs.Types.{flag, known_type, short_name, name_record, field_in, field_record}
+use Rattle.file_type.proofs.FileTypes.{each, size_most}
+use Rattle.link_types.specs.Types.{flag}
 
 -- what is said of a case is said of the answer
 pub case : {A B : Type 0} (f : A → B) {m a : A} {b : B} → m ≡ a → b ≡ f a → b ≡ f m
-case f e h = h ∙ ap f (sym e)
+case f e h = rw e h
 
 -- what is said of a call's answer is said of what the answer equals
 pub through : {A B : Type 0} (f : A → B) {m a : A} {b : B} → b ≡ f m → m ≡ a → b ≡ f a
@@ -35,31 +29,35 @@ pub as_flag : (b : Bool) → bool_byte b ≡ flag b
 as_flag true = refl
 as_flag false = refl
 
--- ---- file types
+-- ---- names have three bytes at most
+abbrev three : List ℕ → Bool
+three s = leb (length s) 3
+
+pub name_short : (t : FileType) {s : List ℕ} → s ≡ (row t).name → length s ≤ 3
+name_short t e = omega (arith, ap length e, leb-true (length (row t).name) 3 (each (λ (t : FileType). three (row t).name) refl t))
+
+short_at : (xs : List (List ℕ)) (i : ℕ) → list_all three xs ≡ true → length (get_or xs i []) ≤ 3
+short_at [] i h = omega arith
+short_at (x ∷ xs) zero h = leb-true (length x) 3 (and_parts _ _ h).0
+short_at (x ∷ xs) (suc i) h = short_at xs i (and_parts _ _ h).1
+
+-- a name that was found, or an empty one
+name_of_lem : (xs : List (List ℕ)) (i : ℕ) {o : Option (List ℕ)} → o ≡ slice_get xs i → unwrap_or o [] ≡ get_or xs i []
+name_of_lem xs i e = ap (λ (x : Option (List ℕ)). unwrap_or x []) e ∙ unwrap_or-slice_get xs i []
+
+pub name_of : {B : Type 0} (f : List ℕ → B) (xs : List (List ℕ)) (i : ℕ) {o : Option (List ℕ)} {r : B} → o ≡ slice_get xs i → r ≡ f (unwrap_or o []) → r ≡ f (get_or xs i [])
+name_of f xs i e h = h ∙ ap f (name_of_lem xs i e)
+
+pub bit_short : (t : FileType) (i : ℕ) {o : Option (List ℕ)} → o ≡ slice_get (bit_names t) i → length (unwrap_or o []) ≤ 3
+bit_short t i e = omega (arith, ap length (name_of_lem (bit_names t) i e), short_at (bit_names t) i (each (λ (t : FileType). list_all three (bit_names t)) refl t))
+
+pub word_short : (t : FileType) (i : ℕ) {o : Option (List ℕ)} → o ≡ slice_get (word_names t) i → length (unwrap_or o []) ≤ 3
+word_short t i e = omega (arith, ap length (name_of_lem (word_names t) i e), short_at (word_names t) i (each (λ (t : FileType). list_all three (word_names t)) refl t))
+
+-- ---- numbers fit a byte
 module _ (t : FileType) {n : ℕ} where
   pub size_fits : n ≡ (row t).size → Fits w8 n
   size_fits h = omega (arith, size_most t)
 
   pub bits_fit : n ≡ length (bit_names t) → Fits w8 n
   bits_fit h = omega (arith, bits_most t)
-
-pub known_type_lem : (t : FileType) {c n m : ℕ} {b : Bool} {s : Name} → c ≡ (row t).code → n ≡ (row t).size → b ≡ (row t).simulated → m ≡ length (bit_names t)
-    → Named (row t).name s
-    → record { known = 1; code = c; element_size = n; simulated = bool_byte b; bits = m; name_len = s.len; name = s.text } ≡ known_type t
-unfolding known_type
-known_type_lem t c n b m w = rw (c, n, b, m, w.is, as_flag (row t).simulated)
-
--- a name among those of a type
-module _ (names : Known → ℕ → List ℕ) (i : ℕ) {k : Known} {r : SlcName} where
-  pub named : {n : Name} (t : FileType) → k ≡ known.Is t → Named (names (known.Is t) i) n → r ≡ short_name n → r ≡ name_record (names k i)
-  named t e w h = rw e (h ∙ ap short_name w.is)
-
-  pub not_named : k ≡ known.Unknown → r ≡ name_record (names known.Unknown i) → r ≡ name_record (names k i)
-  not_named e h = rw e h
-
-module _ (s : List ℕ) {k : Known} where
-  pub field_known : {f : Field} {r : SlcField} (t : FileType) → k ≡ known.Is t → f ≡ field_in (known.Is t) s → r ≡ field_record f → r ≡ field_record (field_in k s)
-  field_known t e g h = rw e (h ∙ ap field_record g)
-
-  pub field_unknown : k ≡ known.Unknown → record { kind = 0; index = 0 } ≡ field_record (field_in k s)
-  field_unknown e = rw e

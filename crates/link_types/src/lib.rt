@@ -2,14 +2,15 @@
 // values.
 #![tactic(auto)]
 
-ghost use Rattle.std.specs.Prelude.{◌≡◌, [], ◌≤◌};
-ghost use Rattle.link_types.specs.Types.{known_type, type_record, short_name, name_record, bit_name_in, word_name_in, field_in, field_record};
+ghost use Rattle.std.specs.Prelude.{◌≡◌, ◌≤◌, [], length};
+ghost use Rattle.std.specs.Option.{option_copied, unwrap_or};
+ghost use Rattle.link_types.specs.Types.{known_type, type_record, name_record, bit_name_in, word_name_in, field_in, field_record};
 
-use file_type::{Field, FileType, Known, Name};
+use file_type::{Field, FileType};
 
 // All is 0 where the type is not known.
 #[repr(C)]
-#[derive(Clone, Copy)]
+#[derive(Clone, Copy, Default)]
 pub struct SlcFileType {
     pub known: u8,
     pub code: u8,
@@ -36,95 +37,90 @@ pub struct SlcField {
     pub index: u8,
 }
 
-fn known_type(t: FileType) -> SlcFileType
-    ensures { result ≡ known_type t }
+fn name_record(name: &str) -> SlcName
+    requires { length name.now ≤ 3 }
+    ensures { result ≡ name_record name.now }
 {
-    let n = t.name();
-    let name = n.text;
-    SlcFileType {
-        known: 1,
-        code: t.code(),
-        element_size: t.element_size() as u8,
-        simulated: t.simulated() as u8,
-        bits: file_type_fields::bits(t) as u8,
-        name_len: n.len as u8,
-        name,
-    }
-}
-
-pub fn type_record(k: Known) -> SlcFileType
-    ensures { result ≡ type_record k }
-{
-    match k {
-        Known::Is(t) => known_type(t),
-        Known::Unknown => SlcFileType {
-            known: 0,
-            code: 0,
-            element_size: 0,
-            simulated: 0,
-            bits: 0,
-            name_len: 0,
-            name: [0, 0, 0],
-        },
-    }
-}
-
-fn short_name(n: Name) -> SlcName
-    requires { n.len ≤ 3 }
-    ensures { result ≡ short_name n }
-{
-    let text = n.text;
+    let mut text = [0u8; 3];
+    text[..name.len()].copy_from_slice(name.as_bytes());
     SlcName {
-        len: n.len as u8,
+        len: name.len() as u8,
         text,
     }
 }
 
-fn no_name() -> SlcName
-    ensures { result ≡ name_record [] }
+#[tactic(auto, using(crate::proofs::TypeRecords::name_short, crate::proofs::TypeRecords::size_fits, crate::proofs::TypeRecords::bits_fit), unfolding(crate::specs::Types::known_type))]
+fn known_type(t: FileType) -> SlcFileType
+    ensures { result ≡ known_type t }
 {
-    SlcName {
-        len: 0,
-        text: [0, 0, 0],
+    let name = name_record(t.name());
+    let text = name.text;
+    SlcFileType {
+        known: 1,
+        code: t.code(),
+        element_size: t.element_size() as u8,
+        simulated: u8::from(t.simulated()),
+        bits: file_type_fields::bits(t) as u8,
+        name_len: name.len,
+        name: text,
     }
 }
 
-// The name of status bit 15 - i of a type; empty where there is none.
-pub fn bit_name(k: Known, i: usize) -> SlcName
-    ensures { result ≡ name_record (bit_name_in k i) }
+pub fn type_record(t: Option<FileType>) -> SlcFileType
+    ensures { result ≡ type_record t }
 {
-    match k {
-        Known::Is(t) => short_name(file_type_fields::bit_name(t, i)),
-        Known::Unknown => no_name(),
+    match t {
+        Some(t) => known_type(t),
+        None => SlcFileType::default(),
+    }
+}
+
+// The name, or an empty one where there is none.
+fn name_or_empty(name: Option<&'static str>) -> SlcName
+    requires { length (unwrap_or (option_copied name) []) ≤ 3 }
+    ensures { result ≡ name_record (unwrap_or (option_copied name.entry) []) }
+{
+    name_record(name.unwrap_or(""))
+}
+
+// The name of status bit 15 - i of a type; empty where there is none.
+#[tactic(auto, using(crate::proofs::TypeRecords::bit_short, crate::proofs::TypeRecords::name_of))]
+pub fn bit_name(t: Option<FileType>, i: usize) -> SlcName
+    ensures { result ≡ name_record (bit_name_in t i) }
+{
+    match t {
+        Some(t) => name_or_empty(file_type_fields::bit_name(t, i)),
+        None => name_record(""),
     }
 }
 
 // The name of word i + 1 of a type; empty where there is none.
-pub fn word_name(k: Known, i: usize) -> SlcName
-    ensures { result ≡ name_record (word_name_in k i) }
+#[tactic(auto, using(crate::proofs::TypeRecords::word_short, crate::proofs::TypeRecords::name_of))]
+pub fn word_name(t: Option<FileType>, i: usize) -> SlcName
+    ensures { result ≡ name_record (word_name_in t i) }
 {
-    match k {
-        Known::Is(t) => short_name(file_type_fields::word_name(t, i)),
-        Known::Unknown => no_name(),
+    match t {
+        Some(t) => name_or_empty(file_type_fields::word_name(t, i)),
+        None => name_record(""),
     }
 }
 
-fn field_record(f: Field) -> SlcField
+fn field_record(f: Option<Field>) -> SlcField
     ensures { result ≡ field_record f }
 {
     match f {
-        Field::Word(i) => SlcField { kind: 1, index: i },
-        Field::Bit(i) => SlcField { kind: 2, index: i },
-        Field::Unknown => SlcField { kind: 0, index: 0 },
+        Some(Field::Word(i)) => SlcField { kind: 1, index: i },
+        Some(Field::Bit(i)) => SlcField { kind: 2, index: i },
+        None => SlcField { kind: 0, index: 0 },
     }
 }
 
 // What a name stands for in an element of a type.
-pub fn field_of(k: Known, name: &[u8]) -> SlcField
-    ensures { result ≡ field_record (field_in k name.now) }
+pub fn field_of(t: Option<FileType>, name: &[u8]) -> SlcField
+    ensures { result ≡ field_record (field_in t name.now) }
 {
-    match k {
-        Known::Is(t) => field_record(file_type_fields::field(t, name)),
-        Known::Unknown => SlcField { kind: 0, index: 0 },
+    match t {
+        Some(t) => field_record(file_type_fields::field(t, name)),
+        None => field_record(None),
     }
 }

@@ -6,9 +6,10 @@ ghost use Rattle.file_type.specs.Table.{of_code};
 ghost use Rattle.reply_values_spec.specs.Values.{asked};
 ghost use Rattle.link_values.specs.ValueRecords.{told, value_record, reply_record, values_in, ReadsInRecord};
 
-use file_type::{FileType, Known};
+use base::Refusal;
+use file_type::FileType;
 use link_requests::requests::SlcAddress;
-use reply_values::{ReadReply, ReplyValue};
+use reply_values::ReplyValue;
 
 // The kinds of a write.
 const FALSE: u8 = 1;
@@ -34,6 +35,7 @@ pub struct SlcReplyValue {
     pub count: usize,
 }
 
+#[tactic(auto, unfolding(crate::specs::ValueRecords::told))]
 fn value(kind: u8, number: i64, length: usize, count: usize) -> SlcReplyValue
     ensures { result ≡ told kind number length count }
 {
@@ -50,31 +52,27 @@ fn value_record(v: ReplyValue, count: usize) -> SlcReplyValue
     ensures { result ≡ value_record v count }
 {
     match v {
-        ReplyValue::Word(n) => value(WORD, n as i64, 0, count),
-        ReplyValue::Long(n) => value(LONG, n as i64, 0, count),
-        ReplyValue::Float(b) => value(REAL, b as i64, 0, count),
-        ReplyValue::Bit(b) => {
-            if b {
-                return value(TRUE, 1, 0, count);
-            }
-            value(FALSE, 0, 0, count)
-        }
+        ReplyValue::Word(n) => value(WORD, i64::from(n), 0, count),
+        ReplyValue::Long(n) => value(LONG, i64::from(n), 0, count),
+        ReplyValue::Float(b) => value(REAL, i64::from(b), 0, count),
+        ReplyValue::Bit(true) => value(TRUE, 1, 0, count),
+        ReplyValue::Bit(false) => value(FALSE, 0, 0, count),
         ReplyValue::Text(n) => value(LATIN1, 0, n, count),
     }
 }
 
-pub fn reply_record(r: ReadReply) -> SlcReplyValue
+pub fn reply_record(r: Result<(ReplyValue, usize), Refusal>) -> SlcReplyValue
     ensures { result ≡ reply_record r }
 {
     match r {
-        ReadReply::Refused(n) => SlcReplyValue {
-            refused: n,
+        Ok((v, count)) => value_record(v, count),
+        Err(e) => SlcReplyValue {
+            refused: e.number(),
             kind: 0,
             number: 0,
             length: 0,
             count: 0,
         },
-        ReadReply::Is(v, count) => value_record(v, count),
     }
 }
 
@@ -82,10 +80,8 @@ pub fn reply_record(r: ReadReply) -> SlcReplyValue
 pub fn parse_read_data(x: SlcAddress, bytes: &[u8], index: usize, out: &mut [u8]) -> SlcReplyValue
     ensures { ReadsInRecord (asked index (length out.old) (values_in (of_code x.code) x.bit x.sub_element bytes.now)) out.old result out.new }
 {
-    let k = FileType::from_code(x.code);
-    match k {
-        Known::Unknown => reply_record(ReadReply::Refused(27)),
-        Known::Is(t) => reply_record(reply_values::parse_typed(
+    match FileType::from_code(x.code) {
+        Some(t) => reply_record(reply_values::parse_typed(
             t,
             x.bit != 0,
             x.sub_element,
@@ -93,5 +89,6 @@ pub fn parse_read_data(x: SlcAddress, bytes: &[u8], index: usize, out: &mut [u8]
             index,
             out,
         )),
+        None => reply_record(Err(Refusal::UnreadableReply)),
     }
 }

@@ -1,2 +1,2 @@
-pub mod DecimalNumbers
 pub mod PartReaders
+pub mod DecimalNumbers

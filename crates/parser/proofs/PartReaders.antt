@@ -1,341 +1,243 @@
--- Laws by which the readers are proved: each says what a part gives from what the reader met.
+-- Laws by which the readers are proved. Of a part `x`, read from the place `i` on, a reader answers `placed i s x`, or `place_of` of that.
+-- What the part gave: none_read, some_read, none_place, some_place. `reading` goes on at texts, to `then x k ≡ y`; `answering` goes on at cursors, to `q ≡ placed i s (then x k)`.
+-- Behind a `?` list the arm's `was`, as in `search (answering, c.in_ok-n.was, rules)`. A reader with one step needs no law: unfold `placed` and `then` in its attribute.
+use Rattle.std.specs.Prelude.{Option, None, Some}
 use Prim.Native.Char.{Char}
 use Prim.Native.Nat.{ℕ, ◌+◌, ◌≤◌, ◌<◌, ◌-◌}
 use mathlib.Core.Path.{◌≡◌, refl, ap, sym, ◌∙◌}
 use mathlib.Core.List.{List, [], ◌∷◌}
-use mathlib.Core.Option.{Option, none, some}
-use mathlib.Core.Bool.{Bool, true, false, not, ◌&&◌}
+use mathlib.Core.Bool.{Bool, true, false}
 use native.Mathlib.Nat.{add-sub_cancel_left}
 use native.Mathlib.Omega.{arith}
-use borrow.Author.Tests.{le-leb, lt-leb, lt-ltb, le-ltb, eq-eqb, ne_eqb, not-true, not-false}
+use borrow.Author.Tests.{le-leb, lt-leb, leb-true, leb-false, lt-ltb, le-ltb, eq-eqb, ne_eqb}
 use lib.Dec.{leb}
 use lib.ListN.{length, take, drop, get_or, drop_of_length-le, length-drop}
 use lib.Seq.{drop-drop}
 use Rattle.base.proofs.Parts.{drop_next}
 use Rattle.parser_spec.specs.DecimalNumbers.{digit_run, Run, number_of}
-use Rattle.parser_spec.specs.Parts.{Part, then, at_end, here, any_byte, one, byte, numeral, digits, digits_in, after_byte, count_number}
+use Rattle.parser_spec.specs.Parts.{Part, then, at_end, here, any_byte, one, byte, numeral, after_byte}
 use Rattle.parser_spec.specs.Characters.{utf8, letter, first_of}
-use Rattle.parser_spec.proofs.Held.{nothing, that, no_some}
+use Rattle.parser_spec.proofs.Held.{nothing, that}
 use Rattle.parser_spec.proofs.Behind.{Leaves, byte_leaves, numeral_leaves, digits_leaves, in_leaves, number_leaves, count_leaves}
 use Rattle.parser_spec.proofs.Characters.{letter_leaves, first_leaves, first_read, first_past}
 use Rattle.parser_spec.proofs.Written.{step, stop, after_read, after_absent, one_read}
-use Rattle.parser.specs.CursorAnswers.{end_from, placed, eaten_of, read_number_of, read_word_of}
+use Rattle.parser.specs.CursorAnswers.{end_from, placed, place_of}
 use Rattle.parser.specs.declared.Cur.{Cur}
-use Rattle.parser.specs.declared.Eaten.{Eaten}
-use Rattle.parser.specs.declared.Eaten.TheVariants as place
-use Rattle.parser.specs.declared.ReadNumber.{ReadNumber}
-use Rattle.parser.specs.declared.ReadNumber.TheVariants as number
-use Rattle.parser.specs.declared.ReadWord.{ReadWord}
-use Rattle.parser.specs.declared.ReadWord.TheVariants as word
 
 -- ---- a part that was read
--- a reader that started at `i` and one that starts at `j` have the same end
-pub record Onward (s : List ℕ) (i j : ℕ) : Type 0 where
-  pub end : end_from j s ≡ end_from i s
+-- the part `x`, read from the place `i` on, gave `v` and left the text from the cursor `c` on, with the same end
+pub record Reads {A : Type 0} (s : List ℕ) (i : ℕ) (x : Option (A × List ℕ)) (v : A) (c : Cur) : Type 0 where
+  pub is : x ≡ Some (v, drop c.i s)
+  pub end : end_from c.i s ≡ end_from i s
 
--- the part `x`, read from the place `i` on, gave `v` and left the text from the place `j` on
-pub record Reads {A : Type 0} (s : List ℕ) (i : ℕ) (x : Option (A × List ℕ)) (v : A) (j : ℕ) : Type 0 where
-  pub is : x ≡ some (v, drop j s)
-  pub on : Onward s i j
-
-module _ (s : List ℕ) (i : ℕ) where
-  pub stay : Onward s i i
-  stay = record { end = refl }
-
-  pub next_on : i < length s → Onward s i (i + 1)
-  next_on h = record { end = omega arith }
-
-  pub came : {A : Type 0} (j k : ℕ) (x : Option (A × List ℕ)) (v : A) → Reads s j x v k → Onward s i j → Onward s i k
-  came j k x v h o = record { end = h.on.end ∙ o.end }
-
+-- ---- what a reader answers by what the part gives, and what the part gave by what a reader answered
 module _ {A : Type 0} (s : List ℕ) (i : ℕ) where
-  pub placed_none : (x : Option (A × List ℕ)) → placed i s x ≡ none → x ≡ none
-  unfolding placed
-  placed_none none e = refl
-  placed_none (some p) e = no_some (sym e)
+  module _ (x : Option (A × List ℕ)) where
+    pub no_read : (q : Option (A × Cur)) → q ≡ None → x ≡ None → q ≡ placed i s x
+    unfolding placed
+    no_read q g e = rw (g, e)
 
-  pub placed_some : {x : Option (A × List ℕ)} (v : A) (j : ℕ) → Leaves (drop i s) x → placed i s x ≡ some (v, j) → Reads s i x v j
+    pub a_read : (v : A) (c : Cur) → Reads s i x v c → Some (v, c) ≡ placed i s x
+    unfolding placed
+    a_read v c h =
+        let n : length (drop c.i s) ≡ length s - c.i = length-drop c.i s in
+        let k : c.i ≡ end_from i s - length (drop c.i s) = omega (arith, h.end) in
+        rw h.is (ap (λ (m : ℕ). Some (v, record { i = m })) k)
+
+  pub none_read : (x : Option (A × List ℕ)) (r : Option (A × Cur)) → r ≡ placed i s x → r ≡ None → x ≡ None
   unfolding placed
-  placed_some v j nothing e = no_some e
-  placed_some v j (that {v = u} {r = r} b) e =
-      let w : ◌≡◌ {A = A × ℕ} (u, end_from i s - length r) (v, j) = cc in
-      let p : u ≡ v = ap (λ (z : A × ℕ). z.0) w in
-      let q : end_from i s - length r ≡ j = ap (λ (z : A × ℕ). z.1) w in
+  none_read None r e g = refl
+  none_read (Some p) r e g = cc
+
+  pub some_read : {x : Option (A × List ℕ)} (r : Option (A × Cur)) (v : A) (c : Cur) → r ≡ placed i s x → r ≡ Some (v, c) → Leaves (drop i s) x → Reads s i x v c
+  unfolding placed
+  some_read r v c e g nothing = cc
+  some_read r v c e g (that {v = u} {r = l} b) =
+      let w : ◌≡◌ {A = A × Cur} (u, record { i = end_from i s - length l }) (v, c) = cc in
+      let p : u ≡ v = ap (λ (z : A × Cur). z.0) w in
+      let q : end_from i s - length l ≡ c.i = ap (λ (z : A × Cur). z.1.i) w in
       let n : length (drop i s) ≡ length s - i = length-drop i s in
-      let k : i + (length (drop i s) - length r) ≡ j = omega (arith, b.shorter) in
-      let d : r ≡ drop j s = sym b.is ∙ drop-drop (length (drop i s) - length r) i s ∙ ap (λ (m : ℕ). drop m s) k in
-      record { is = rw (p, d); on = record { end = omega (arith, b.shorter) } }
+      let k : i + (length (drop i s) - length l) ≡ c.i = omega (arith, b.shorter) in
+      let d : l ≡ drop c.i s = sym b.is ∙ drop-drop (length (drop i s) - length l) i s ∙ ap (λ (m : ℕ). drop m s) k in
+      record { is = rw (p, d); end = omega (arith, b.shorter) }
 
-  pub placed_at : (x : Option (A × List ℕ)) (v : A) (j : ℕ) → x ≡ some (v, drop j s) → Onward s i j → placed i s x ≡ some (v, j)
-  unfolding placed
-  placed_at x v j e o =
-      let n : length (drop j s) ≡ length s - j = length-drop j s in
-      let k : end_from i s - length (drop j s) ≡ j = omega (arith, o.end) in
-      rw e (ap (λ (m : ℕ). some (v, m)) k)
+-- the same, of a reader that answers no more than the place
+with_unit : Option Cur → Option (Unit {0} × Cur)
+with_unit None = None
+with_unit (Some c) = Some (tt, c)
 
-  pub placed_by : (x : Option (A × List ℕ)) → x ≡ none → placed i s x ≡ none
-  unfolding placed
-  placed_by x e = rw e
+told : (r : Option Cur) (o : Option (Unit {0} × Cur)) → r ≡ place_of o → with_unit r ≡ o
+unfolding place_of with_unit
+told r None e = rw e
+told r (Some p) e = rw e
 
-  pub placed_on : (j : ℕ) (x : Option (A × List ℕ)) → Onward s i j → placed j s x ≡ placed i s x
-  unfolding placed
-  placed_on j none o = refl
-  placed_on j (some p) o = rw o.end
+module _ (s : List ℕ) (i : ℕ) (x : Option (Unit {0} × List ℕ)) where
+  pub no_place : (q : Option Cur) → q ≡ None → x ≡ None → q ≡ place_of (placed i s x)
+  unfolding place_of
+  no_place q g e = g ∙ ap place_of (no_read s i x None refl e)
 
--- ---- what a reader answers by what the part gives
-module _ (s : List ℕ) (i : ℕ) where
-  pub no_place : (x : Option (Unit {0} × List ℕ)) → x ≡ none → place.No ≡ eaten_of (placed i s x)
-  unfolding eaten_of
-  no_place x e = rw (placed_by s i x e)
+  pub a_place : (c : Cur) → Reads s i x tt c → Some c ≡ place_of (placed i s x)
+  unfolding place_of
+  a_place c h = ap place_of (a_read s i x tt c h)
 
-  pub a_place : (x : Option (Unit {0} × List ℕ)) (c : Cur) → x ≡ some (tt, drop c.i s) → Onward s i c.i → place.At c ≡ eaten_of (placed i s x)
-  unfolding eaten_of
-  a_place x c e o = rw (placed_at s i x tt c.i e o)
+  pub none_place : (r : Option Cur) → r ≡ place_of (placed i s x) → r ≡ None → x ≡ None
+  unfolding with_unit
+  none_place r e g = none_read s i x (with_unit r) (told r _ e) (rw g)
 
-  pub no_number : (x : Option (ℕ × List ℕ)) → x ≡ none → number.No ≡ read_number_of (placed i s x)
-  unfolding read_number_of
-  no_number x e = rw (placed_by s i x e)
+  pub some_place : (r : Option Cur) (c : Cur) → r ≡ place_of (placed i s x) → r ≡ Some c → Leaves (drop i s) x → Reads s i x tt c
+  unfolding with_unit
+  some_place r c e g l = some_read s i (with_unit r) tt c (told r _ e) (rw g) l
 
-  pub a_number : (x : Option (ℕ × List ℕ)) (n : ℕ) (c : Cur) → x ≡ some (n, drop c.i s) → Onward s i c.i → number.Got n c ≡ read_number_of (placed i s x)
-  unfolding read_number_of
-  a_number x n c e o = rw (placed_at s i x n c.i e o)
+-- ---- what follows a part that its reader read, or didn't find: at texts
+module _ {A : Type 0} (s : List ℕ) (i : ℕ) where
+  module _ {B : Type 0} (x : Option (B × List ℕ)) (r : Option (B × Cur)) (k : B → Part A) (e : r ≡ placed i s x) where
+    pub stop_read : r ≡ None → then x k ≡ None
+    stop_read g = stop k (none_read s i x r e g)
 
-  pub no_word : (x : Option (ℕ × List ℕ)) → x ≡ none → word.No ≡ read_word_of (placed i s x)
-  unfolding read_word_of
-  no_word x e = rw (placed_by s i x e)
+    pub next_read : (v : B) (c : Cur) (y : Option (A × List ℕ)) → r ≡ Some (v, c) → Leaves (drop i s) x → k v (drop c.i s) ≡ y → then x k ≡ y
+    next_read v c y g l h = step k (some_read s i r v c e g l).is ∙ h
 
-  pub a_word : (x : Option (ℕ × List ℕ)) (n : ℕ) (c : Cur) → x ≡ some (n, drop c.i s) → Onward s i c.i → word.Got n c ≡ read_word_of (placed i s x)
-  unfolding read_word_of
-  a_word x n c e o = rw (placed_at s i x n c.i e o)
+  module _ (x : Option (Unit {0} × List ℕ)) (r : Option Cur) (k : Unit {0} → Part A) (e : r ≡ place_of (placed i s x)) where
+    pub stop_place : r ≡ None → then x k ≡ None
+    stop_place g = stop k (none_place s i x r e g)
 
--- ---- what the part gave by what a reader answered: `back` tells it of the answer that `to` makes
-module _ {A R : Type 0} (to : Option (A × ℕ) → R) (back : R → Option (A × ℕ)) (told : (o : Option (A × ℕ)) → back (to o) ≡ o) (s : List ℕ) (i : ℕ) (x : Option (A × List ℕ)) (r : R) (e : r ≡ to (placed i s x)) where
-  gave : back r ≡ placed i s x
-  gave = ap back e ∙ told (placed i s x)
+    pub next_place : (c : Cur) (y : Option (A × List ℕ)) → r ≡ Some c → Leaves (drop i s) x → k tt (drop c.i s) ≡ y → then x k ≡ y
+    next_place c y g l h = step k (some_place s i x r c e g l).is ∙ h
 
-  pub gave_none : back r ≡ none → x ≡ none
-  gave_none g = placed_none s i x (sym gave ∙ g)
+  module _ (r : Option Cur) (v : ℕ) (p : Part A) (a : A) (e : r ≡ place_of (placed i s (byte v (drop i s)))) where
+    pub not_after : r ≡ None → after_byte v p a (drop i s) ≡ Some (a, drop i s)
+    not_after g = after_absent v p a (drop i s) (none_place s i _ r e g)
 
-  pub gave_some : (v : A) (j : ℕ) → back r ≡ some (v, j) → Leaves (drop i s) x → Reads s i x v j
-  gave_some v j g l = placed_some s i v j l (sym gave ∙ g)
+    pub is_after : (c : Cur) (y : Option (A × List ℕ)) → r ≡ Some c → p (drop c.i s) ≡ y → after_byte v p a (drop i s) ≡ y
+    is_after c y g h = after_read v p a (drop i s) (some_place s i _ r c e g (byte_leaves v (drop i s))).is ∙ h
 
-abbrev eaten_at : Eaten → Option (Unit {0} × ℕ)
-eaten_at place.No = none
-eaten_at (place.At c) = some (tt, c.i)
+  module _ (r : Option Cur) (v : Char) (a : A) (xs : List (Char × A)) (e : r ≡ place_of (placed i s (letter utf8 v (drop i s)))) where
+    pub first_is : (c : Cur) → r ≡ Some c → first_of utf8 ((v, a) ∷ xs) (drop i s) ≡ Some (a, drop c.i s)
+    first_is c g = first_read utf8 v a xs (drop i s) (some_place s i _ r c e g (letter_leaves _ (drop i s))).is
 
-eaten_told : (o : Option (Unit {0} × ℕ)) → eaten_at (eaten_of o) ≡ o
-unfolding eaten_of
-eaten_told none = refl
-eaten_told (some p) = refl
+    pub first_not : (y : Option (A × List ℕ)) → r ≡ None → first_of utf8 xs (drop i s) ≡ y → first_of utf8 ((v, a) ∷ xs) (drop i s) ≡ y
+    first_not y g h = first_past utf8 v a xs (drop i s) (none_place s i _ r e g) ∙ h
 
-module _ (s : List ℕ) (i : ℕ) (x : Option (Unit {0} × List ℕ)) (r : Eaten) (e : r ≡ eaten_of (placed i s x)) where
-  none_eaten : r ≡ place.No → x ≡ none
-  none_eaten g = gave_none eaten_of eaten_at eaten_told s i x r e (ap eaten_at g)
+  pub first_none : (t : List ℕ) → first_of utf8 {A = A} [] t ≡ None
+  unfolding first_of
+  first_none t = refl
 
-  pub some_eaten : (c : Cur) → r ≡ place.At c → Leaves (drop i s) x → Reads s i x tt c.i
-  some_eaten c g l = gave_some eaten_of eaten_at eaten_told s i x r e tt c.i (ap eaten_at g) l
+-- ---- and at cursors
+module _ {A : Type 0} (s : List ℕ) where
+  -- a value, with nothing read
+  pub give_at : (v : A) (c : Cur) → Some (v, c) ≡ placed c.i s (Some (v, drop c.i s))
+  give_at v c = a_read s c.i _ v c (record { is = refl; end = refl })
 
-abbrev number_at : ReadNumber → Option (ℕ × ℕ)
-number_at number.No = none
-number_at (number.Got n c) = some (n, c.i)
+  module _ (i : ℕ) (q : Option (A × Cur)) where
+    pub placed_on : {B : Type 0} {z : Option (B × List ℕ)} {v : B} {c : Cur} (x y : Option (A × List ℕ)) → Reads s i z v c → y ≡ x → q ≡ placed c.i s x → q ≡ placed i s y
+    unfolding placed
+    placed_on None y o e h = h ∙ rw e
+    placed_on (Some p) y o e h = h ∙ rw (o.end, e)
 
-number_told : (o : Option (ℕ × ℕ)) → number_at (read_number_of o) ≡ o
-unfolding read_number_of
-number_told none = refl
-number_told (some p) = refl
+    pub next_at : {B : Type 0} (x : Option (B × List ℕ)) (r : Option (B × Cur)) (k : B → Part A) (v : B) (c : Cur) → r ≡ placed i s x → r ≡ Some (v, c) → Leaves (drop i s) x → q ≡ placed c.i s (k v (drop c.i s)) → q ≡ placed i s (then x k)
+    next_at x r k v c e g l h = let o = some_read s i r v c e g l in placed_on _ _ o (step k o.is) h
 
-module _ (s : List ℕ) (i : ℕ) (x : Option (ℕ × List ℕ)) (r : ReadNumber) (e : r ≡ read_number_of (placed i s x)) where
-  none_number : r ≡ number.No → x ≡ none
-  none_number g = gave_none read_number_of number_at number_told s i x r e (ap number_at g)
+    pub next_place_at : (x : Option (Unit {0} × List ℕ)) (r : Option Cur) (k : Unit {0} → Part A) (c : Cur) → r ≡ place_of (placed i s x) → r ≡ Some c → Leaves (drop i s) x → q ≡ placed c.i s (k tt (drop c.i s)) → q ≡ placed i s (then x k)
+    next_place_at x r k c e g l h = let o = some_place s i x r c e g l in placed_on _ _ o (step k o.is) h
 
-  some_number : (n : ℕ) (c : Cur) → r ≡ number.Got n c → Leaves (drop i s) x → Reads s i x n c.i
-  some_number n c g l = gave_some read_number_of number_at number_told s i x r e n c.i (ap number_at g) l
+    pub after_at : (r : Option Cur) (v : ℕ) (p : Part A) (a : A) (c : Cur) → r ≡ place_of (placed i s (byte v (drop i s))) → r ≡ Some c → q ≡ placed c.i s (p (drop c.i s)) → q ≡ placed i s (after_byte v p a (drop i s))
+    after_at r v p a c e g h = let o = some_place s i _ r c e g (byte_leaves v (drop i s)) in placed_on _ _ o (after_read v p a (drop i s) o.is) h
 
-abbrev word_at : ReadWord → Option (ℕ × ℕ)
-word_at word.No = none
-word_at (word.Got n c) = some (n, c.i)
+  module _ (i : ℕ) (r : Option Cur) where
+    pub absent_at : (v : ℕ) (p : Part A) (a : A) → r ≡ place_of (placed i s (byte v (drop i s))) → r ≡ None → Some (a, record { i = i }) ≡ placed i s (after_byte v p a (drop i s))
+    absent_at v p a e g = give_at a (record { i = i }) ∙ ap (placed i s) (sym (not_after s i r v p a e g))
 
-word_told : (o : Option (ℕ × ℕ)) → word_at (read_word_of o) ≡ o
-unfolding read_word_of
-word_told none = refl
-word_told (some p) = refl
+    module _ (v : Char) (a : A) (xs : List (Char × A)) (e : r ≡ place_of (placed i s (letter utf8 v (drop i s)))) where
+      pub first_at : (c : Cur) → r ≡ Some c → Some (a, c) ≡ placed i s (first_of utf8 ((v, a) ∷ xs) (drop i s))
+      first_at c g = let o = some_place s i _ r c e g (letter_leaves _ (drop i s)) in a_read s i _ a c (record { is = first_is s i r v a xs e c g; end = o.end })
 
-module _ (s : List ℕ) (i : ℕ) (x : Option (ℕ × List ℕ)) (r : ReadWord) (e : r ≡ read_word_of (placed i s x)) where
-  none_word : r ≡ word.No → x ≡ none
-  none_word g = gave_none read_word_of word_at word_told s i x r e (ap word_at g)
-
-  pub some_word : (n : ℕ) (c : Cur) → r ≡ word.Got n c → Leaves (drop i s) x → Reads s i x n c.i
-  some_word n c g l = gave_some read_word_of word_at word_told s i x r e n c.i (ap word_at g) l
+      pub later_at : (q : Option (A × Cur)) → r ≡ None → q ≡ placed i s (first_of utf8 xs (drop i s)) → q ≡ placed i s (first_of utf8 ((v, a) ∷ xs) (drop i s))
+      later_at q g h = h ∙ ap (placed i s) (sym (first_not s i r v a xs e _ g refl))
 
 -- ---- one that passes a test, by what `char` read
 module _ (char : Part ℕ) (test : ℕ → Bool) (s : List ℕ) (i : ℕ) where
-  pub one_none : char (drop i s) ≡ none → place.No ≡ eaten_of (placed i s (one char test (drop i s)))
+  pub one_none : (q : Option Cur) → q ≡ None → char (drop i s) ≡ None → q ≡ place_of (placed i s (one char test (drop i s)))
   unfolding one
-  one_none e = no_place s i _ (stop _ e)
+  one_none q g e = no_place s i _ q g (stop _ e)
 
-  module _ (x : ℕ) (c : Cur) (h : Reads s i (char (drop i s)) x c.i) where
-    pub one_is : test x ≡ true → place.At c ≡ eaten_of (placed i s (one char test (drop i s)))
-    one_is e = a_place s i _ c (one_read char test x h.is e) h.on
+  module _ (x : ℕ) (c : Cur) (h : Reads s i (char (drop i s)) x c) where
+    pub one_is : test x ≡ true → Some c ≡ place_of (placed i s (one char test (drop i s)))
+    one_is e = a_place s i _ c (record { is = one_read char test x h.is e; end = h.end })
 
-    pub one_not : test x ≡ false → place.No ≡ eaten_of (placed i s (one char test (drop i s)))
+    pub one_not : test x ≡ false → None ≡ place_of (placed i s (one char test (drop i s)))
     unfolding one here
-    one_not e = no_place s i _ (step _ h.is ∙ rw e)
+    one_not e = no_place s i _ None refl (step _ h.is ∙ rw e)
 
 -- ---- one byte
+pub any_here : (s : List ℕ) (i : ℕ) → i < length s → Reads s i (any_byte (drop i s)) (get_or s i 0) (record { i = i + 1 })
+unfolding any_byte
+any_here s i h = record { is = rw (drop_next s i h); end = omega arith }
+
 module _ (s : List ℕ) (i v : ℕ) where
-  pub byte_end : length s ≤ i → place.No ≡ eaten_of (placed i s (byte v (drop i s)))
+  pub byte_end : length s ≤ i → None ≡ place_of (placed i s (byte v (drop i s)))
   unfolding byte any_byte
-  byte_end h = one_none any_byte _ s i (rw (drop_of_length-le s h))
+  byte_end h = one_none any_byte _ s i None refl (rw (drop_of_length-le s h))
 
   module _ (h : i < length s) where
-    any_here : Reads s i (any_byte (drop i s)) (get_or s i 0) (i + 1)
-    unfolding any_byte
-    any_here = record { is = rw (drop_next s i h); on = next_on s i h }
-
-    pub byte_here : get_or s i 0 ≡ v → place.At (record { i = i + 1 }) ≡ eaten_of (placed i s (byte v (drop i s)))
+    pub byte_here : get_or s i 0 ≡ v → Some (record { i = i + 1 }) ≡ place_of (placed i s (byte v (drop i s)))
     unfolding byte
-    byte_here e = one_is any_byte _ s i _ (record { i = i + 1 }) any_here (eq-eqb _ _ e)
+    byte_here e = one_is any_byte _ s i _ (record { i = i + 1 }) (any_here s i h) (eq-eqb _ _ e)
 
-    pub byte_not : (get_or s i 0 ≡ v → ⊥) → place.No ≡ eaten_of (placed i s (byte v (drop i s)))
+    pub byte_not : (get_or s i 0 ≡ v → ⊥) → None ≡ place_of (placed i s (byte v (drop i s)))
     unfolding byte
-    byte_not e = one_not any_byte _ s i _ (record { i = i + 1 }) any_here (ne_eqb _ _ e)
+    byte_not e = one_not any_byte _ s i _ (record { i = i + 1 }) (any_here s i h) (ne_eqb _ _ e)
+
+pub ruleset one_byte = (byte_end, byte_here, byte_not)
 
 -- ---- numbers
 module _ (s : List ℕ) (i n : ℕ) (run : Run s i n) where
   e : n ≡ digit_run (drop i s)
   e = run.is
 
-  pub numeral_none : n ≡ 0 → number.No ≡ read_number_of (placed i s (numeral (drop i s)))
+  pub numeral_none : n ≡ 0 → None ≡ placed i s (numeral (drop i s))
   unfolding numeral
-  numeral_none z = no_number s i _ (simp (le-ltb 0 (digit_run (drop i s)) (omega arith)))
+  numeral_none z = no_read s i _ None refl (simp (le-ltb 0 (digit_run (drop i s)) (omega arith)))
 
-  pub numeral_at : (v : ℕ) → (n ≡ 0 → ⊥) → v ≡ number_of (take ((i + n) - i) (drop i s)) → number.Got v (record { i = i + n }) ≡ read_number_of (placed i s (numeral (drop i s)))
+  pub numeral_at : (v : ℕ) → (n ≡ 0 → ⊥) → v ≡ number_of (take ((i + n) - i) (drop i s)) → Some (v, record { i = i + n }) ≡ placed i s (numeral (drop i s))
   unfolding numeral
   numeral_at v z p =
-      let q : numeral (drop i s) ≡ some (v, drop (i + n) s) = simp (lt-ltb 0 (digit_run (drop i s)) (omega arith), ← e, drop-drop n i s, p, add-sub_cancel_left i n) in
-      a_number s i _ v (record { i = i + n }) q (record { end = omega (arith, run.fits) })
+      let q : numeral (drop i s) ≡ Some (v, drop (i + n) s) = simp (lt-ltb 0 (digit_run (drop i s)) (omega arith), ← e, drop-drop n i s, p, add-sub_cancel_left i n) in
+      a_read s i _ v (record { i = i + n }) (record { is = q; end = omega (arith, run.fits) })
 
-  pub digits_long : (max : ℕ) → max < n → number.No ≡ read_number_of (placed i s (digits max (drop i s)))
-  unfolding digits
-  digits_long max h = let k : max < digit_run (drop i s) = omega arith in no_number s i _ (rw (lt-leb _ _ k))
-
-  pub digits_are : (max : ℕ) (r : ReadNumber) → n ≤ max → r ≡ read_number_of (placed i s (numeral (drop i s))) → r ≡ read_number_of (placed i s (digits max (drop i s)))
-  unfolding digits
-  digits_are max r h g = let k : digit_run (drop i s) ≤ max = omega arith in rw (le-leb _ _ k) g
+pub ruleset numerals = (numeral_none, numeral_at)
 
 -- ---- the end
-pub more_left : (s : List ℕ) (i : ℕ) → i < length s → false ≡ at_end (drop i s)
+pub end_left : (s : List ℕ) (i : ℕ) → leb (length s) i ≡ at_end (drop i s)
 unfolding at_end
-more_left s i h = rw (drop_next s i h)
-
-pub nothing_left : (s : List ℕ) (i : ℕ) → length s ≤ i → true ≡ at_end (drop i s)
-unfolding at_end
-nothing_left s i h = rw (drop_of_length-le s h)
-
--- the number of a count
-module _ (one_or_two : Bool) (s : List ℕ) (i : ℕ) where
-  pub any_number : (r : ReadNumber) → not one_or_two ≡ true → r ≡ read_number_of (placed i s (numeral (drop i s))) → r ≡ read_number_of (placed i s (count_number one_or_two (drop i s)))
-  unfolding count_number
-  any_number r e h = rw (not-true one_or_two e) h
-
-  module _ (r : ReadWord) (e : not one_or_two ≡ false) (h : r ≡ read_word_of (placed i s (digits_in 1 1 2 (drop i s)))) where
-    pub not_two : r ≡ word.No → number.No ≡ read_number_of (placed i s (count_number one_or_two (drop i s)))
-    unfolding count_number
-    not_two g = rw (not-false one_or_two e) (no_number s i _ (none_word s i _ r h g))
-
-    pub one_or_two_lem : (n : ℕ) (c : Cur) → r ≡ word.Got n c → number.Got n c ≡ read_number_of (placed i s (count_number one_or_two (drop i s)))
-    unfolding count_number
-    one_or_two_lem n c g = let k : Reads s i (digits_in 1 1 2 (drop i s)) n c.i = some_word s i _ r h n c g (in_leaves 1 1 2 (drop i s)) in rw (not-false one_or_two e) (a_number s i _ n c k.is k.on)
-
--- ---- a part that a reader read, or didn't find, in front of what follows it
-module _ {A B : Type 0} {s : List ℕ} {i j : ℕ} {x : Option (B × List ℕ)} {v : B} where
-  pub next : (k : B → Part A) (y : Option (A × List ℕ)) → Reads s i x v j → k v (drop j s) ≡ y → then x k ≡ y
-  next k y e h = step k e.is ∙ h
-
-module _ {A : Type 0} (s : List ℕ) (i : ℕ) where
-  pub stop_eaten : (x : Option (Unit {0} × List ℕ)) (r : Eaten) (k : Unit {0} → Part A) → r ≡ eaten_of (placed i s x) → r ≡ place.No → then x k ≡ none
-  stop_eaten x r k e g = stop k (none_eaten s i x r e g)
-
-  pub next_eaten : (x : Option (Unit {0} × List ℕ)) (r : Eaten) (k : Unit {0} → Part A) (c : Cur) (y : Option (A × List ℕ)) → r ≡ eaten_of (placed i s x) → r ≡ place.At c → Leaves (drop i s) x → k tt (drop c.i s) ≡ y → then x k ≡ y
-  next_eaten x r k c y e g l h = next k y (some_eaten s i x r e c g l) h
-
-  pub stop_number : (x : Option (ℕ × List ℕ)) (r : ReadNumber) (k : ℕ → Part A) → r ≡ read_number_of (placed i s x) → r ≡ number.No → then x k ≡ none
-  stop_number x r k e g = stop k (none_number s i x r e g)
-
-  pub next_number : (x : Option (ℕ × List ℕ)) (r : ReadNumber) (k : ℕ → Part A) (n : ℕ) (c : Cur) (y : Option (A × List ℕ)) → r ≡ read_number_of (placed i s x) → r ≡ number.Got n c → Leaves (drop i s) x → k n (drop c.i s) ≡ y → then x k ≡ y
-  next_number x r k n c y e g l h = next k y (some_number s i x r e n c g l) h
-
-  pub stop_word : (x : Option (ℕ × List ℕ)) (r : ReadWord) (k : ℕ → Part A) → r ≡ read_word_of (placed i s x) → r ≡ word.No → then x k ≡ none
-  stop_word x r k e g = stop k (none_word s i x r e g)
-
-  pub next_word : (x : Option (ℕ × List ℕ)) (r : ReadWord) (k : ℕ → Part A) (n : ℕ) (c : Cur) (y : Option (A × List ℕ)) → r ≡ read_word_of (placed i s x) → r ≡ word.Got n c → Leaves (drop i s) x → k n (drop c.i s) ≡ y → then x k ≡ y
-  next_word x r k n c y e g l h = next k y (some_word s i x r e n c g l) h
-
-  module _ (r : Eaten) (v : ℕ) (p : Part A) (a : A) (e : r ≡ eaten_of (placed i s (byte v (drop i s)))) where
-    pub not_after : r ≡ place.No → after_byte v p a (drop i s) ≡ some (a, drop i s)
-    not_after g = after_absent v p a (drop i s) (none_eaten s i _ r e g)
-
-    pub is_after : (c : Cur) (y : Option (A × List ℕ)) → r ≡ place.At c → p (drop c.i s) ≡ y → after_byte v p a (drop i s) ≡ y
-    is_after c y g h = after_read v p a (drop i s) (some_eaten s i _ r e c g (byte_leaves v (drop i s))).is ∙ h
-
-  module _ (r : Eaten) (v : Char) (a : A) (xs : List (Char × A)) (e : r ≡ eaten_of (placed i s (letter utf8 v (drop i s)))) where
-    pub first_is : (c : Cur) → r ≡ place.At c → first_of utf8 ((v, a) ∷ xs) (drop i s) ≡ some (a, drop c.i s)
-    first_is c g = first_read utf8 v a xs (drop i s) (some_eaten s i _ r e c g (letter_leaves _ (drop i s))).is
-
-    pub first_not : (y : Option (A × List ℕ)) → r ≡ place.No → first_of utf8 xs (drop i s) ≡ y → first_of utf8 ((v, a) ∷ xs) (drop i s) ≡ y
-    first_not y g h = first_past utf8 v a xs (drop i s) (none_eaten s i _ r e g) ∙ h
-
-  pub first_none : (t : List ℕ) → first_of utf8 {A = A} [] t ≡ none
-  unfolding first_of
-  first_none t = refl
-
--- what a reader of the part behind the byte answered
-pub word_after : (s : List ℕ) (i v : ℕ) (p : Part ℕ) (a : ℕ) (r : Eaten) (c : Cur) (q : ReadWord) → r ≡ eaten_of (placed i s (byte v (drop i s))) → r ≡ place.At c → q ≡ read_word_of (placed c.i s (p (drop c.i s))) → q ≡ read_word_of (placed i s (after_byte v p a (drop i s)))
-word_after s i v p a r c q e g h =
-    let b : Reads s i (byte v (drop i s)) tt c.i = some_eaten s i _ r e c g (byte_leaves v (drop i s)) in
-    let z : after_byte v p a (drop i s) ≡ p (drop c.i s) = after_read v p a (drop i s) b.is in
-    h ∙ ap read_word_of (placed_on s i c.i (p (drop c.i s)) b.on) ∙ ap (λ (x : Option (ℕ × List ℕ)). read_word_of (placed i s x)) (sym z)
-
--- the place that it came to
-module _ (s : List ℕ) (i j : ℕ) (c : Cur) where
-  pub came_eaten : (x : Option (Unit {0} × List ℕ)) (r : Eaten) → r ≡ place.At c → r ≡ eaten_of (placed j s x) → Leaves (drop j s) x → Onward s i j → Onward s i c.i
-  came_eaten x r g e l o = came s i j c.i x tt (some_eaten s j x r e c g l) o
-
-  pub came_number : (x : Option (ℕ × List ℕ)) (r : ReadNumber) (n : ℕ) → r ≡ number.Got n c → r ≡ read_number_of (placed j s x) → Leaves (drop j s) x → Onward s i j → Onward s i c.i
-  came_number x r n g e l o = came s i j c.i x n (some_number s j x r e n c g l) o
-
-  pub came_word : (x : Option (ℕ × List ℕ)) (r : ReadWord) (n : ℕ) → r ≡ word.Got n c → r ≡ read_word_of (placed j s x) → Leaves (drop j s) x → Onward s i j → Onward s i c.i
-  came_word x r n g e l o = came s i j c.i x n (some_word s j x r e n c g l) o
+end_left s i = go (leb (length s) i) refl
+  where
+    go : (t : Bool) → leb (length s) i ≡ t → t ≡ at_end (drop i s)
+    go true e = rw (drop_of_length-le s (leb-true _ _ e))
+    go false e = rw (drop_next s i (leb-false _ _ e))
 
 -- ---- a test
-here_yes : {A : Type 0} (t : Bool) (s : List ℕ) (k : Unit {0} → Part A) (y : Option (A × List ℕ)) → t ≡ true → k tt s ≡ y → then (here t s) k ≡ y
-unfolding then here
-here_yes t s k y e h = rw e h
+module _ {A : Type 0} (s : List ℕ) (k : Unit {0} → Part A) where
+  here_no : (t : Bool) → t ≡ false → then (here t s) k ≡ None
+  unfolding then here
+  here_no t e = rw e
 
-here_no : {A : Type 0} (t : Bool) (s : List ℕ) (k : Unit {0} → Part A) → t ≡ false → then (here t s) k ≡ none
-unfolding then here
-here_no t s k e = rw e
+  here_yes : (t : Bool) → t ≡ true → then (here t s) k ≡ k tt s
+  unfolding then here
+  here_yes t e = rw e
 
--- at most, and from low to high
-module _ {A : Type 0} (high n : ℕ) (s : List ℕ) (k : Unit {0} → Part A) where
-  pub above : high < n → then (here (leb n high) s) k ≡ none
-  above h = here_no _ s k (lt-leb n high h)
+  -- at most
+  module _ (high n : ℕ) where
+    pub above : high < n → then (here (leb n high) s) k ≡ None
+    above h = here_no _ (lt-leb n high h)
 
-  pub at_most : (y : Option (A × List ℕ)) → n ≤ high → k tt s ≡ y → then (here (leb n high) s) k ≡ y
-  at_most y h e = here_yes _ s k y (le-leb n high h) e
+    pub at_most : (y : Option (A × List ℕ)) → n ≤ high → k tt s ≡ y → then (here (leb n high) s) k ≡ y
+    at_most y h e = here_yes _ (le-leb n high h) ∙ e
 
-module _ {A : Type 0} (low high n : ℕ) (s : List ℕ) (k : Unit {0} → Part A) where
-  pub too_low : n < low → then (here (leb low n && leb n high) s) k ≡ none
-  too_low h = here_no _ s k (rw (lt-leb low n h))
-
-  pub too_high : low ≤ n → high < n → then (here (leb low n && leb n high) s) k ≡ none
-  too_high l h = here_no _ s k (rw (le-leb low n l, lt-leb n high h))
-
-  pub in_range_lem : (y : Option (A × List ℕ)) → low ≤ n → n ≤ high → k tt s ≡ y → then (here (leb low n && leb n high) s) k ≡ y
-  in_range_lem y l h e = here_yes _ s k y (rw (le-leb low n l, le-leb n high h)) e
+-- that a part leaves a part of the text
+pub ruleset leaving = (byte_leaves, letter_leaves, numeral_leaves, digits_leaves, in_leaves, first_leaves, number_leaves, count_leaves)
 
 -- what a part gives, from what the readers of its parts answered
-pub ruleset reading = (stop_eaten, next_eaten, stop_number, next_number, stop_word, next_word, not_after, is_after, first_is, first_not, first_none, byte_leaves, letter_leaves, numeral_leaves, digits_leaves, in_leaves, first_leaves, number_leaves, count_leaves)
+pub ruleset reading = (leaving, stop_read, next_read, stop_place, next_place, not_after, is_after, first_is, first_not, first_none)
 
--- what a reader answers, from what the part gives and the place that it came to
-pub ruleset answering = (reading, no_place, a_place, no_number, a_number, no_word, a_word, stay, came_eaten, came_number, came_word)
+-- what a reader answers
+pub ruleset answering = (leaving, no_read, stop_read, stop_place, next_at, next_place_at, after_at, absent_at, first_at, later_at, first_none, give_at)

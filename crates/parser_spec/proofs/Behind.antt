@@ -1,9 +1,9 @@
 -- What a part leaves stands at the end of what it was given, so that the place where it begins says which bytes it is.
+use Rattle.std.specs.Prelude.{Option, Some}
 use Prim.Native.Nat.{ℕ, suc, ◌+◌, ◌-◌, ◌≤◌}
 use mathlib.Core.Path.{◌≡◌, sym, ap, ◌∙◌, subst}
 use mathlib.Core.Bool.{Bool, true, false, cond}
 use mathlib.Core.List.{List, [], ◌∷◌}
-use mathlib.Core.Option.{Option, some}
 use native.Mathlib.Omega.{arith}
 use lib.ListN.{length, drop, length-drop}
 use lib.Seq.{drop-drop}
@@ -47,7 +47,7 @@ either false p q s f g = g
 pub then_leaves : {A B : Type 0} {s : List ℕ} {x : Option (A × List ℕ)} {k : A → Part B} → Leaves s x → ((v : A) (r : List ℕ) → Leaves r (k v r)) → Leaves s (then x k)
 then_leaves h f = and_next h (λ v r b. further b (f v r))
 
-pub give_leaves : {A : Type 0} {v : A} (s : List ℕ) → Leaves s (some (v, s))
+pub give_leaves : {A : Type 0} {v : A} (s : List ℕ) → Leaves s (Some (v, s))
 give_leaves s = that (none_behind s)
 
 -- ---- one byte or character

@@ -1,8 +1,8 @@
 -- The bytes of a character: one below 128, which it is, or bytes that are all above 127.
+use Rattle.std.specs.Prelude.{None, Some}
 use Prim.Native.Nat.{ℕ, zero, suc, ◌+◌, ◌*◌, ◌-◌, ◌≤◌, ◌<◌}
 use mathlib.Core.Path.{◌≡◌, refl, ap, sym, subst, ◌∙◌}
 use mathlib.Core.List.{List, [], ◌∷◌, ◌++◌}
-use mathlib.Core.Option.{none, some}
 use mathlib.Core.Bool.{Bool, true, false, ◌&&◌, cond}
 use native.Mathlib.Nat.{not-suc-le-zero}
 use native.Mathlib.Omega.{arith}
@@ -54,7 +54,7 @@ unfolding byte_in
 byte_far r [] h = nothing
 byte_far r (b ∷ s) h = go (within r b) refl
   where
-    go : (t : Bool) → within r b ≡ t → Holds (λ (d : ℕ) (q : List ℕ). First (b ∷ s) q) (cond t (some (b - r.low, s)) none)
+    go : (t : Bool) → within r b ≡ t → Holds (λ (d : ℕ) (q : List ℕ). First (b ∷ s) q) (cond t (Some (b - r.low, s)) None)
     go true e = that (record { byte = b; text = refl; high = omega (arith, leb-true 128 r.low h, leb-true r.low b (both (leb r.low b) (leb b r.high) e).0) })
     go false e = nothing
 

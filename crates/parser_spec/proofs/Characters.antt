@@ -1,9 +1,9 @@
 -- Laws of characters: what one leaves, which row gives it, a text of them step by step, bytes below 128; and of the letters that they stand for.
+use Rattle.std.specs.Prelude.{Option, None, Some}
 use Prim.Native.Nat.{ℕ, zero, suc, ◌+◌, ◌*◌, ◌-◌, ◌≤◌, ◌<◌}
 use Prim.Native.Char.{Char}
 use mathlib.Core.Path.{◌≡◌, refl, ap, ap₂, sym, subst, ◌∙◌}
 use mathlib.Core.List.{List, [], ◌∷◌}
-use mathlib.Core.Option.{Option, none, some}
 use mathlib.Core.Bool.{Bool, true, false, ◌&&◌, cond, and-false}
 use native.Mathlib.Nat.{le_of_suc-le-suc, not-suc-le-zero}
 use native.Mathlib.Omega.{arith}
@@ -80,16 +80,16 @@ module _ (alphabet : Alphabet) where
   unfolding letter_of
   letter_held v s = one_held alphabet.char _ s
 
-  pub letter_read : (v x : ℕ) {s r : List ℕ} → alphabet.char s ≡ some (x, r) → alphabet.capital x ≡ v → letter_of alphabet v s ≡ some (tt, r)
+  pub letter_read : (v x : ℕ) {s r : List ℕ} → alphabet.char s ≡ Some (x, r) → alphabet.capital x ≡ v → letter_of alphabet v s ≡ Some (tt, r)
   unfolding letter_of
   letter_read v x e h = one_read alphabet.char _ x e (eq-eqb _ _ h)
 
   module _ {A : Type 0} (c : Char) (a : A) (xs : List (Char × A)) (t : List ℕ) where
-    pub first_read : {s : List ℕ} → letter alphabet c t ≡ some (tt, s) → first_of alphabet ((c, a) ∷ xs) t ≡ some (a, s)
+    pub first_read : {s : List ℕ} → letter alphabet c t ≡ Some (tt, s) → first_of alphabet ((c, a) ∷ xs) t ≡ Some (a, s)
     unfolding first_of or_else then
     first_read e = rw e
 
-    pub first_past : letter alphabet c t ≡ none → first_of alphabet ((c, a) ∷ xs) t ≡ first_of alphabet xs t
+    pub first_past : letter alphabet c t ≡ None → first_of alphabet ((c, a) ∷ xs) t ≡ first_of alphabet xs t
     unfolding first_of or_else then
     first_past e = rw e
 
@@ -100,7 +100,7 @@ module _ (alphabet : Alphabet) where
     first_held P (x ∷ xs) h s = or_held (and_any (letter alphabet x.0 s) λ v r. that h.0) (first_held P xs h.1 s)
 
 -- ---- a text of characters
-pub formed_none : (s : List ℕ) → character s ≡ none → well_formed s ≡ at_end s
+pub formed_none : (s : List ℕ) → character s ≡ None → well_formed s ≡ at_end s
 unfolding well_formed characters
 formed_none [] e = refl
 formed_none (b ∷ s) e = rw e
@@ -120,7 +120,7 @@ enough (suc n) (suc m) (b ∷ s) h k = go (lead_read table b s) (λ r l. enough 
     go nothing f = refl
     go (that q) f = f _ q.shorter
 
-pub formed_next : (s : List ℕ) (x : ℕ) (r : List ℕ) → character s ≡ some (x, r) → well_formed s ≡ well_formed r
+pub formed_next : (s : List ℕ) (x : ℕ) (r : List ℕ) → character s ≡ Some (x, r) → well_formed s ≡ well_formed r
 unfolding well_formed characters character_in table
 formed_next [] x r e = no_some e
 formed_next (b ∷ s) x r e = rw e (enough (length s) (length r) r (held_of (lead_read table b s) e).shorter (omega arith))
@@ -171,14 +171,14 @@ module _ (b : ℕ) (s : List ℕ) where
       let p = both (above r.lead.high rows) (apart rows) a in
       past_row r rows (omega (arith, above_at r.lead.high rows k d p.0 (le_of_suc-le-suc l))) ∙ row_of rows k d p.1 (le_of_suc-le-suc l) u v
 
-  under_rows : (rows : List Row) (h : ℕ) → above h rows ≡ true → b ≤ h → character_in rows (b ∷ s) ≡ none
+  under_rows : (rows : List Row) (h : ℕ) → above h rows ≡ true → b ≤ h → character_in rows (b ∷ s) ≡ None
   unfolding character_in
   under_rows [] h a l = refl
   under_rows (r ∷ rows) h a l =
       let p = both (ltb h r.lead.low) (above h rows) a in
       rw (lt-leb r.lead.low b (omega (arith, ltb-true h r.lead.low p.0))) (under_rows rows h p.1 l)
 
-  over_rows : (rows : List Row) (h : ℕ) → below h rows ≡ true → h ≤ b → character_in rows (b ∷ s) ≡ none
+  over_rows : (rows : List Row) (h : ℕ) → below h rows ≡ true → h ≤ b → character_in rows (b ∷ s) ≡ None
   unfolding character_in
   over_rows [] h a l = refl
   over_rows (r ∷ rows) h a l =
@@ -186,11 +186,11 @@ module _ (b : ℕ) (s : List ℕ) where
       past_row r rows (omega (arith, ltb-true r.lead.high h p.0)) ∙ over_rows rows h p.1 l
 
   -- between the first row and the second, and behind the last
-  pub no_row_lem : 0x80 ≤ b → b ≤ 0xC1 → character (b ∷ s) ≡ none
+  pub no_row_lem : 0x80 ≤ b → b ≤ 0xC1 → character (b ∷ s) ≡ None
   unfolding table
   no_row_lem l h = past_row _ _ l ∙ under_rows _ 0xC1 refl h
 
-  pub no_more : 0xF5 ≤ b → character (b ∷ s) ≡ none
+  pub no_more : 0xF5 ≤ b → character (b ∷ s) ≡ None
   unfolding table
   no_more l = over_rows _ 0xF5 refl l
 
@@ -215,9 +215,9 @@ module _ (b : ℕ) (s : List ℕ) where
   far h = subst (Holds (λ (x : ℕ) (r : List ℕ). 128 ≤ x)) (sym (past_row _ _ h)) (far_held (drop 1 table) refl)
 
   -- a byte below 128 is a character by itself
-  pub small_character : b < 128 → character (b ∷ s) ≡ some (b, s)
+  pub small_character : b < 128 → character (b ∷ s) ≡ Some (b, s)
   unfolding point_in bytes_in then table
-  small_character h = in_row 0 (omega arith) (omega arith) (omega arith) ∙ ap (λ (x : ℕ). some (x, s)) (omega arith)
+  small_character h = in_row 0 (omega arith) (omega arith) (omega arith) ∙ ap (λ (x : ℕ). Some (x, s)) (omega arith)
 
 -- ---- the capital letters of characters
 -- only two characters stand for another letter than in document 01
@@ -228,10 +228,10 @@ pub small_capital : (x : ℕ) → x < 128 → capital x ≡ upper x
 small_capital x h = other_capital x (λ e. omega arith) (λ e. omega arith)
 
 -- C4 B1 is an I, C5 BF an S
-pub dotless_i : (s : List ℕ) → letter utf8 "I" (0xC4 ∷ 0xB1 ∷ s) ≡ some (tt, s)
+pub dotless_i : (s : List ℕ) → letter utf8 "I" (0xC4 ∷ 0xB1 ∷ s) ≡ Some (tt, s)
 unfolding letter_of one then here character_in table point_in bytes_in byte_in
 dotless_i s = refl
 
-pub long_s : (s : List ℕ) → letter utf8 "S" (0xC5 ∷ 0xBF ∷ s) ≡ some (tt, s)
+pub long_s : (s : List ℕ) → letter utf8 "S" (0xC5 ∷ 0xBF ∷ s) ≡ Some (tt, s)
 unfolding letter_of one then here character_in table point_in bytes_in byte_in
 long_s s = refl

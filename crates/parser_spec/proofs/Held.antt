@@ -1,8 +1,8 @@
 -- What holds of whatever a part reads: a law for each part, so that a fact about accepted texts is one line a form.
+use Rattle.std.specs.Prelude.{Option, None, Some}
 use Prim.Native.Nat.{ℕ, ◌≤◌, ◌<◌}
 use mathlib.Core.Path.{◌≡◌, refl, ap, sym, ◌∙◌, subst}
 use mathlib.Core.List.{List, [], ◌∷◌}
-use mathlib.Core.Option.{Option, none, some}
 use mathlib.Core.Bool.{Bool, true, false, ◌&&◌, cond}
 use native.Mathlib.Omega.{arith}
 use borrow.Author.Tests.{eqb-true, leb-true, ltb-true}
@@ -12,8 +12,8 @@ use Rattle.parser_spec.specs.DecimalNumbers.{digit_run, most, number_of}
 use Rattle.parser_spec.specs.Parts.{Part, then, or_else, ended, whole, at_end, here, any_byte, one, byte, numeral, digits, digits_in, behind, after_byte, count_number, count_of}
 
 pub data Holds {X : Type 0} (P : X → List ℕ → Type 0) : Option (X × List ℕ) → Type 0 where
-  nothing : Holds P none
-  that : {v : X} {r : List ℕ} → P v r → Holds P (some (v, r))
+  nothing : Holds P None
+  that : {v : X} {r : List ℕ} → P v r → Holds P (Some (v, r))
 
 module _ {X Y : Type 0} {P : X → List ℕ → Type 0} where
   pub and_next : {Q : Y → List ℕ → Type 0} {x : Option (Y × List ℕ)} {k : Y → Part X} → Holds Q x → ((v : Y) (r : List ℕ) → Q v r → Holds P (k v r)) → Holds P (then x k)
@@ -23,8 +23,8 @@ module _ {X Y : Type 0} {P : X → List ℕ → Type 0} where
 
   pub and_any : (x : Option (Y × List ℕ)) {k : Y → Part X} → ((v : Y) (r : List ℕ) → Holds P (k v r)) → Holds P (then x k)
   unfolding then
-  and_any none f = nothing
-  and_any (some p) f = f p.0 p.1
+  and_any None f = nothing
+  and_any (Some p) f = f p.0 p.1
 
 module _ {X : Type 0} where
   pub weaker : {P Q : X → List ℕ → Type 0} {x : Option (X × List ℕ)} → ((v : X) (r : List ℕ) → P v r → Q v r) → Holds P x → Holds Q x
@@ -36,33 +36,33 @@ module _ {X : Type 0} where
   both_held f nothing nothing = nothing
   both_held f (that h) (that k) = that (f _ _ h k)
 
-  pub itself : (x : Option (X × List ℕ)) → Holds (λ (v : X) (r : List ℕ). x ≡ some (v, r)) x
-  itself none = nothing
-  itself (some p) = that refl
+  pub itself : (x : Option (X × List ℕ)) → Holds (λ (v : X) (r : List ℕ). x ≡ Some (v, r)) x
+  itself None = nothing
+  itself (Some p) = that refl
 
-  pub no_some : {A : Type 0} {v : X} → ◌≡◌ {A = Option X} none (some v) → A
+  pub no_some : {A : Type 0} {v : X} → ◌≡◌ {A = Option X} None (Some v) → A
   no_some e = absurd (let w : ◌≡◌ {A = ℕ} 0 1 = cc in omega arith)
 
   -- what was read holds
-  pub held_of : {P : X → List ℕ → Type 0} {x : Option (X × List ℕ)} {v : X} {r : List ℕ} → Holds P x → x ≡ some (v, r) → P v r
+  pub held_of : {P : X → List ℕ → Type 0} {x : Option (X × List ℕ)} {v : X} {r : List ℕ} → Holds P x → x ≡ Some (v, r) → P v r
   held_of {v} {r} nothing e = absurd (let w : ◌≡◌ {A = ℕ} 0 1 = cc in omega arith)
   held_of {P} {v} {r} (that {v = u} {r = s} h) e =
       let p : ◌≡◌ {A = X × List ℕ} (u, s) (v, r) = cc in
       subst (λ (w : X × List ℕ). P w.0 w.1) p h
 
   -- ---- the whole text
-  at_end_lem : (u v : X) (l : List ℕ) → cond (at_end l) (some u) none ≡ some v → ◌≡◌ {A = Option (X × List ℕ)} (some (u, l)) (some (v, []))
+  at_end_lem : (u v : X) (l : List ℕ) → cond (at_end l) (Some u) None ≡ Some v → ◌≡◌ {A = Option (X × List ℕ)} (Some (u, l)) (Some (v, []))
   unfolding at_end
-  at_end_lem u v [] e = let p : u ≡ v = cc in ap {B = Option (X × List ℕ)} (λ (z : X). some (z, [])) p
+  at_end_lem u v [] e = let p : u ≡ v = cc in ap {B = Option (X × List ℕ)} (λ (z : X). Some (z, [])) p
   at_end_lem u v (b ∷ l) e = no_some e
 
-  pub whole_some : (p : Part X) (s : List ℕ) (v : X) → whole p s ≡ some v → p s ≡ some (v, [])
+  pub whole_some : (p : Part X) (s : List ℕ) (v : X) → whole p s ≡ Some v → p s ≡ Some (v, [])
   unfolding whole ended
   whole_some p s v = go (p s)
     where
-      go : (x : Option (X × List ℕ)) → ended x ≡ some v → x ≡ some (v, [])
-      go none e = no_some e
-      go (some w) e = at_end_lem w.0 v w.1 e
+      go : (x : Option (X × List ℕ)) → ended x ≡ Some v → x ≡ Some (v, [])
+      go None e = no_some e
+      go (Some w) e = at_end_lem w.0 v w.1 e
 
   -- ---- a choice, and what stands behind a byte
   module _ {P : X → List ℕ → Type 0} where
@@ -76,8 +76,8 @@ module _ {X : Type 0} where
     after_held v p a s f h = go (byte v s)
       where
         go : (z : Option (Unit {0} × List ℕ)) → Holds P (behind z p a s)
-        go none = that h
-        go (some w) = f w.1
+        go None = that h
+        go (Some w) = f w.1
 
 -- ---- a test, one byte or character
 pub here_held : (t : Bool) (s : List ℕ) → Holds (λ (u : Unit {0}) (r : List ℕ). (t ≡ true) × (r ≡ s)) (here t s)
@@ -90,15 +90,15 @@ module _ (char : Part ℕ) where
   pub record Read (test : ℕ → Bool) (s r : List ℕ) : Type 0 where
     pub value : ℕ
     pub passes : test value ≡ true
-    pub text : char s ≡ some (value, r)
+    pub text : char s ≡ Some (value, r)
 
   pub one_held : (test : ℕ → Bool) (s : List ℕ) → Holds (λ (u : Unit {0}) (r : List ℕ). Read test s r) (one char test s)
   unfolding one then
   one_held test s = go (char s) refl
     where
       go : (z : Option (ℕ × List ℕ)) → char s ≡ z → Holds (λ (u : Unit {0}) (r : List ℕ). Read test s r) (then z (λ x. here (test x)))
-      go none e = nothing
-      go (some p) e = weaker (λ u r h. record { value = p.0; passes = h.0; text = e ∙ ap (λ (l : List ℕ). some (p.0, l)) (sym h.1) }) (here_held (test p.0) p.1)
+      go None e = nothing
+      go (Some p) e = weaker (λ u r h. record { value = p.0; passes = h.0; text = e ∙ ap (λ (l : List ℕ). Some (p.0, l)) (sym h.1) }) (here_held (test p.0) p.1)
 
 any_held : (s : List ℕ) → Holds (λ (b : ℕ) (r : List ℕ). s ≡ b ∷ r) (any_byte s)
 unfolding any_byte
@@ -123,7 +123,7 @@ pub numeral_held : (s : List ℕ) → Holds (Numeral s) (numeral s)
 unfolding numeral
 numeral_held s = go (ltb 0 (digit_run s)) refl
   where
-    go : (t : Bool) → ltb 0 (digit_run s) ≡ t → Holds (Numeral s) (cond t (some (number_of (take (digit_run s) s), drop (digit_run s) s)) none)
+    go : (t : Bool) → ltb 0 (digit_run s) ≡ t → Holds (Numeral s) (cond t (Some (number_of (take (digit_run s) s), drop (digit_run s) s)) None)
     go true e = that (record { some_digit = ltb-true 0 (digit_run s) e; value = refl; rest = refl })
     go false e = nothing
 
@@ -131,11 +131,11 @@ pub digits_held : (max : ℕ) (s : List ℕ) → Holds (λ (n : ℕ) (r : List �
 unfolding digits
 digits_held max s = go (leb (digit_run s) max) refl
   where
-    go : (t : Bool) → leb (digit_run s) max ≡ t → Holds (λ (n : ℕ) (r : List ℕ). Numeral s n r × (digit_run s ≤ max)) (cond t (numeral s) none)
+    go : (t : Bool) → leb (digit_run s) max ≡ t → Holds (λ (n : ℕ) (r : List ℕ). Numeral s n r × (digit_run s ≤ max)) (cond t (numeral s) None)
     go true e = weaker (λ n r h. (h, leb-true (digit_run s) max e)) (numeral_held s)
     go false e = nothing
 
-range : (low high n : ℕ) (r : List ℕ) (t u : Bool) → leb low n ≡ t → leb n high ≡ u → Holds (λ (n : ℕ) (r : List ℕ). (low ≤ n) × (n ≤ high)) (then (here (t && u) r) (λ _ q. some (n, q)))
+range : (low high n : ℕ) (r : List ℕ) (t u : Bool) → leb low n ≡ t → leb n high ≡ u → Holds (λ (n : ℕ) (r : List ℕ). (low ≤ n) × (n ≤ high)) (then (here (t && u) r) (λ _ q. Some (n, q)))
 unfolding then here
 range low high n r true true e f = that (leb-true low n e, leb-true n high f)
 range low high n r true false e f = nothing

@@ -1,9 +1,9 @@
 -- The table of characters is the Unicode Standard's: each row has as many sequences of bytes as code points, and goes from the sequence of its first to that of its last;
 -- every character is a Unicode scalar value.
+use Rattle.std.specs.Prelude.{None, Some}
 use Prim.Native.Nat.{ℕ, zero, suc, ◌+◌, ◌*◌, ◌-◌, ◌/◌, ◌%◌, ◌^◌, ◌≤◌}
 use mathlib.Core.Path.{◌≡◌, refl}
 use mathlib.Core.List.{List, [], ◌∷◌, map}
-use mathlib.Core.Option.{none, some}
 use mathlib.Core.Bool.{Bool, true, false, ◌&&◌, cond}
 use native.Mathlib.Omega.{arith}
 use borrow.Author.Tests.{leb-true}
@@ -62,7 +62,7 @@ unfolding byte_in
 range_held r [] = nothing
 range_held r (b ∷ s) = go (within r b) refl
   where
-    go : (t : Bool) → within r b ≡ t → Holds (λ (d : ℕ) (q : List ℕ). d ≤ r.high - r.low) (cond t (some (b - r.low, s)) none)
+    go : (t : Bool) → within r b ≡ t → Holds (λ (d : ℕ) (q : List ℕ). d ≤ r.high - r.low) (cond t (Some (b - r.low, s)) None)
     go true e =
         let h : b ≤ r.high = leb-true b r.high (both (leb r.low b) (leb b r.high) e).1 in
         let k : b - r.low ≤ r.high - r.low = omega arith in

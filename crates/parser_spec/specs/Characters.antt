@@ -1,7 +1,6 @@
 -- Characters of a text, by the Unicode Standard's table of well-formed UTF-8 byte sequences (table 3-7), and file letters.
-use Rattle.std.specs.Prelude.{ℕ, zero, suc, ◌+◌, ◌*◌, ◌-◌, List, [], ◌∷◌, Bool, ◌&&◌, cond, leb, eqb, length}
+use Rattle.std.specs.Prelude.{ℕ, zero, suc, ◌+◌, ◌*◌, ◌-◌, List, [], ◌∷◌, Bool, ◌&&◌, cond, leb, eqb, length, Option, None, Some}
 use Prim.Native.Char.{Char, code}
-use Rattle.std.proofs.Math.Option.{Option, none, some}
 use Rattle.base.specs.Chars.{upper}
 use Rattle.parser_spec.specs.Parts.{Part, then, ◌>>=◌, give, or_else, at_end, any_byte, one}
 
@@ -43,8 +42,8 @@ table =
 
 -- a byte of a range, counted from its lowest
 unfoldable pub byte_in : Range → Part ℕ
-byte_in r [] = none
-byte_in r (b ∷ s) = cond (within r b) (some (b - r.low, s)) none
+byte_in r [] = None
+byte_in r (b ∷ s) = cond (within r b) (Some (b - r.low, s)) None
 
 -- a byte for each range, behind the number n: the sequences of a row are counted in order, 64 to each byte behind the first
 unfoldable pub bytes_in : ℕ → List Range → Part ℕ
@@ -57,8 +56,8 @@ point_in c n rs = do m ← bytes_in n rs; give (c + m)
 
 -- the character that the row of the first byte gives
 unfoldable pub character_in : List Row → Part ℕ
-character_in [] s = none
-character_in (r ∷ rows) [] = none
+character_in [] s = None
+character_in (r ∷ rows) [] = None
 character_in (r ∷ rows) (b ∷ s) = cond (within r.lead b) (point_in r.first (b - r.lead.low) r.trail s) (character_in rows (b ∷ s))
 
 -- "a character is a code point" (the protocol of document 02, of A2)
@@ -68,8 +67,8 @@ character = character_in table
 -- ---- a text of characters
 -- what is said of the rest behind a character; where there is none, whether the text is at its end
 abbrev pub onward : Option (ℕ × List ℕ) → List ℕ → (List ℕ → Bool) → Bool
-onward none s k = at_end s
-onward (some x) s k = k x.1
+onward None s k = at_end s
+onward (Some x) s k = k x.1
 
 -- characters one behind another up to the end, at most so many
 unfoldable pub characters : ℕ → List ℕ → Bool
@@ -108,5 +107,5 @@ module _ (alphabet : Alphabet) where
 
   -- the value of the first letter that stands
   unfoldable pub first_of : {A : Type 0} → List (Char × A) → Part A
-  first_of [] s = none
+  first_of [] s = None
   first_of (x ∷ xs) s = or_else (then (letter x.0 s) (λ _. give x.1)) (first_of xs s)

@@ -1,7 +1,6 @@
 -- Reading a text part by part: a part gives a value and what is left behind it, or nothing.
-use Rattle.std.specs.Prelude.{ℕ, suc, List, [], ◌∷◌, Bool, true, false, ◌&&◌, cond, leb, ltb, eqb, take, drop}
+use Rattle.std.specs.Prelude.{ℕ, suc, List, [], ◌∷◌, Bool, true, false, ◌&&◌, cond, leb, ltb, eqb, take, drop, Option, None, Some}
 use Prim.Native.Char.{Char, code}
-use Rattle.std.proofs.Math.Option.{Option, none, some}
 use Rattle.parser_spec.specs.DecimalNumbers.{digit_run, number_of}
 
 abbrev pub Part : Type 0 → Type 0
@@ -9,8 +8,8 @@ Part A = List ℕ → Option (A × List ℕ)
 
 module _ {A B : Type 0} where
   unfoldable pub then : Option (A × List ℕ) → (A → Part B) → Option (B × List ℕ)
-  then none k = none
-  then (some p) k = k p.0 p.1
+  then None k = None
+  then (Some p) k = k p.0 p.1
 
   abbrev pub ◌>>=◌ : Part A → (A → Part B) → Part B
   ◌>>=◌ p k = λ s. then (p s) k
@@ -26,17 +25,17 @@ at_end (b ∷ s) = false
 module _ {A : Type 0} where
   -- a value, with nothing read
   abbrev pub give : A → Part A
-  give a = λ s. some (a, s)
+  give a = λ s. Some (a, s)
 
   -- the first of two that is there
   unfoldable pub or_else : Option (A × List ℕ) → Option (A × List ℕ) → Option (A × List ℕ)
-  or_else none q = q
-  or_else (some p) q = some p
+  or_else None q = q
+  or_else (Some p) q = Some p
 
   -- the value, where nothing is left
   unfoldable pub ended : Option (A × List ℕ) → Option A
-  ended none = none
-  ended (some p) = cond (at_end p.1) (some p.0) none
+  ended None = None
+  ended (Some p) = cond (at_end p.1) (Some p.0) None
 
   -- "The whole tag must be used."
   unfoldable pub whole : Part A → List ℕ → Option A
@@ -45,12 +44,12 @@ module _ {A : Type 0} where
 -- a test
 unfoldable pub here : Bool → Part (Unit {0})
 here true = give tt
-here false = λ _. none
+here false = λ _. None
 
 -- any byte
 unfoldable pub any_byte : Part ℕ
-any_byte [] = none
-any_byte (b ∷ s) = some (b, s)
+any_byte [] = None
+any_byte (b ∷ s) = Some (b, s)
 
 -- one that passes a test, of the bytes or characters that `char` reads
 unfoldable pub one : Part ℕ → (ℕ → Bool) → Part (Unit {0})
@@ -65,11 +64,11 @@ sign c = byte (code c)
 
 -- one digit or more, and no digit behind them
 unfoldable pub numeral : Part ℕ
-numeral s = cond (ltb 0 (digit_run s)) (some (number_of (take (digit_run s) s), drop (digit_run s) s)) none
+numeral s = cond (ltb 0 (digit_run s)) (Some (number_of (take (digit_run s) s), drop (digit_run s) s)) None
 
 -- the same, with at most so many digits
 unfoldable pub digits : ℕ → Part ℕ
-digits max s = cond (leb (digit_run s) max) (numeral s) none
+digits max s = cond (leb (digit_run s) max) (numeral s) None
 
 -- the same, from low to high
 unfoldable pub digits_in : ℕ → ℕ → ℕ → Part ℕ
@@ -80,8 +79,8 @@ digits_in max low high = do
 
 module _ {A : Type 0} where
   abbrev pub behind : Option (Unit {0} × List ℕ) → Part A → A → Part A
-  behind none p a = give a
-  behind (some q) p a = λ _. p q.1
+  behind None p a = give a
+  behind (Some q) p a = λ _. p q.1
 
   -- the part behind this byte, or, where the byte doesn't stand, a value
   unfoldable pub after_byte : ℕ → Part A → A → Part A

@@ -1,2 +1,2 @@
 pub mod DirectoryFills
-pub mod ByQuery
+pub mod Choosing

@@ -19,24 +19,11 @@ pub fn pccc(
 {
     let q = processor_query::asked(slc, command);
     let s = processor_table::survey(table, slc.files, q.number);
-    if q.directory {
-        let d = processor_directory::directory(table, slc.files, q, s);
-        processor_show_directory::show(slc, s, q, d, memory, log, command, reply)
-    } else {
-        processor_respond::respond(slc, s, q, memory, log, command, reply)
+    match q.directory() {
+        Some(layout) => {
+            let d = processor_directory::directory(table, slc.files, layout, s);
+            processor_show_directory::show(slc, s, q, layout, d, memory, log, command, reply)
+        }
+        None => processor_respond::respond(slc, s, q, memory, log, command, reply),
     }
-}
-
-// For programs, which can't lend a table: the records by value.
-pub fn pccc_on(
-    slc: Slc,
-    rows: [FileRecord; 256],
-    memory: &mut [u8],
-    log: &[u8],
-    command: &[u8],
-    reply: &mut [u8],
-) -> Done
-    ensures { Says slc rows memory.old log.now command.now reply.old result memory.new reply.new }
-{
-    pccc(slc, &rows, memory, log, command, reply)
 }

@@ -2,14 +2,15 @@
 // `record_of`, and `finish` clears the data and gives the processor.
 #![tactic(auto)]
 
-ghost use Rattle.std.specs.Prelude.{◌≡◌, min, length, replicate};
+ghost use Rattle.std.specs.Prelude.{◌≡◌, min, map, length, replicate};
 ghost use Rattle.base.specs.Put.{put};
 ghost use Rattle.element_text.specs.Text.{fitted};
-ghost use Rattle.processor_spec.specs.Build.{plan_of, no_slc};
+ghost use Rattle.processor_spec.specs.Build.{plan_of, no_slc, wanted_of, or_defaults};
 ghost use Rattle.processor_build_spec.specs.Plans.{list_judged, judged_of, record_of, slc_with, ended, finish_of};
 
-use processor_build_spec::Judged;
-use processor_spec::{Built, FileRecord, Made, Refusal, Slc};
+use base::Refusal;
+use processor_build_spec::Sums;
+use processor_spec::{Built, FileRecord, Slc};
 
 // The files of an empty list, O to F: number, type code, elements.
 const DEFAULTS: [[u32; 3]; 9] = [
@@ -24,6 +25,15 @@ const DEFAULTS: [[u32; 3]; 9] = [
     [8, 0x8A, 50],
 ];
 
+fn or_defaults(files: &[[u32; 3]]) -> &[[u32; 3]]
+    ensures { map wanted_of result.now ≡ or_defaults (map wanted_of files.now) }
+{
+    if files.is_empty() {
+        return &DEFAULTS;
+    }
+    files
+}
+
 // 11 and 12 for each file in turn, then 13, 14, 15.
 fn judge_list(
     files: &[[u32; 3]],
@@ -32,27 +42,21 @@ fn judge_list(
     count: usize,
     table_length: usize,
     memory_length: usize,
-) -> Judged
+) -> Result<Sums, Refusal>
     ensures { result ≡ list_judged files.now text.now log.now count table_length memory_length }
 {
-    if let Refusal::Number(n) = processor_build_files::refused(files) {
-        return processor_build_spec::refuse(n);
-    }
+    processor_build_files::refused(files)?;
     if !processor_soundness::good_text(type_text(text), text.len()) {
-        return processor_build_spec::refuse(13);
+        return Err(Refusal::UnusableTypeText);
     }
-    let s = processor_build_files::summed(files);
-    if !processor_build_spec::room_for(s, table_length, memory_length) {
-        return processor_build_spec::refuse(14);
+    let sums = processor_build_files::summed(files);
+    if !sums.fit(table_length, memory_length) {
+        return Err(Refusal::FilesBeyondRoom);
     }
     if !processor_soundness::good_log(log, 0, count) {
-        return processor_build_spec::refuse(15);
+        return Err(Refusal::UnusableDatalog);
     }
-    Judged {
-        refusal: Refusal::None,
-        records: s.records,
-        total: s.total,
-    }
+    Ok(sums)
 }
 
 // Puts the questions of building: the files, each a number, a type code and how many elements it has, the type text, the datalog's
@@ -64,34 +68,31 @@ pub fn judge(
     count: usize,
     table_length: usize,
     memory_length: usize,
-) -> Judged
+) -> Result<Sums, Refusal>
     ensures { result ≡ judged_of (plan_of files.now text.now log.now count) table_length memory_length }
 {
-    if files.len() == 0 {
-        return judge_list(&DEFAULTS, text, log, count, table_length, memory_length);
-    }
-    judge_list(files, text, log, count, table_length, memory_length)
+    judge_list(
+        or_defaults(files),
+        text,
+        log,
+        count,
+        table_length,
+        memory_length,
+    )
 }
 
 // The i-th record, in ascending order of the numbers, end to end.
 pub fn record_of(files: &[[u32; 3]], i: usize) -> FileRecord
     ensures { result ≡ record_of files.now i }
 {
-    if files.len() == 0 {
-        return processor_build_files::record_in(&DEFAULTS, i);
-    }
-    processor_build_files::record_in(files, i)
+    processor_build_files::record_in(or_defaults(files), i)
 }
 
 fn clear(memory: &mut [u8], total: usize)
     ensures { memory.new ≡ put memory.old 0 (replicate (min total (length memory.old)) 0) }
 {
-    let n = base::least(total, memory.len());
-    let mut i = 0;
-    while i < n {
-        memory[i] = 0;
-        i += 1;
-    }
+    let n = total.min(memory.len());
+    memory[..n].fill(0);
 }
 
 // The type text in its array, with zeros behind it.
@@ -99,8 +100,8 @@ fn type_text(text: &[u8]) -> [u8; 11]
     ensures { result ≡ fitted 11 0 text.now }
 {
     let mut bytes = [0u8; 11];
-    let n = base::least(11, text.len());
-    base::put_all(&mut bytes, 0, &text[..n]);
+    let n = text.len().min(11);
+    bytes[..n].copy_from_slice(&text[..n]);
     bytes
 }
 
@@ -129,19 +130,20 @@ fn no_slc() -> Slc
 }
 
 // The processor, with its data cleared; or the refusal, which changes nothing.
-pub fn finish(j: Judged, text: &[u8], count: usize, memory: &mut [u8]) -> Built
-    ensures { ended result memory.new ≡ finish_of j text.now count memory.old }
+pub fn finish(judged: Result<Sums, Refusal>, text: &[u8], count: usize, memory: &mut [u8]) -> Built
+    ensures { ended result memory.new ≡ finish_of judged text.now count memory.old }
 {
-    let refusal = j.refusal;
-    if let Refusal::Number(n) = refusal {
-        return Built {
+    match judged {
+        Err(refusal) => Built {
             slc: no_slc(),
-            made: Made::Refused(n),
-        };
-    }
-    clear(memory, j.total);
-    Built {
-        slc: slc_with(j.records, text, count),
-        made: Made::Ready,
+            made: Err(refusal),
+        },
+        Ok(sums) => {
+            clear(memory, sums.total);
+            Built {
+                slc: slc_with(sums.records, text, count),
+                made: Ok(()),
+            }
+        }
     }
 }

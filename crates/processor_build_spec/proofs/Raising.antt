@@ -1,9 +1,9 @@
 -- The three parts together are `new_of`: the records that are laid are the planned ones, and a refusal lays none.
+use Rattle.std.specs.Prelude.{Option, None, Some, Result, Ok, Err}
 use Prim.Native.Nat.{ℕ, zero, suc, ◌+◌, ◌≤◌, ◌<◌, min}
 use mathlib.Core.Path.{◌≡◌, refl, sym, ap, ap₂, ◌∙◌}
 use mathlib.Core.Bool.{Bool, true, false, cond}
 use mathlib.Core.List.{List, [], ◌∷◌, ◌++◌, map}
-use mathlib.Core.Option.{Option, none, some}
 use native.Mathlib.Nat.{mod-eq_of_lt}
 use native.Mathlib.Numerals.{add-one}
 use native.Mathlib.Omega.{arith}
@@ -11,6 +11,8 @@ use borrow.Author.Tests.{eqb-true, leb-true, leb-false, ltb-true}
 use lib.Dec.{leb, eqb}
 use lib.ListN.{length, take, drop, get_or, set, replicate, length-set}
 use lib.Seq.{drop-cons, take-suc, take-length, append_snoc, set_at, length-take-le}
+use Rattle.base.specs.declared.refusal.Refusal.{Refusal}
+use Rattle.base.specs.declared.refusal.Refusal.TheVariants.{UnusableTypeText, FilesBeyondRoom, UnusableDatalog}
 use Rattle.base.specs.Put.{put}
 use Rattle.parser_spec.proofs.Held.{no_some}
 use Rattle.file_type.specs.Table.{element_size}
@@ -22,8 +24,8 @@ use Rattle.processor_spec.specs.State.{every, known_code, good_record, end_to_en
 use Rattle.processor_spec.proofs.NewSound.{built_state, built_sound}
 use Rattle.processor_spec.proofs.Files.{sound_table}
 use Rattle.processor_spec.proofs.Tests.{and_l, and_r}
-use Rattle.processor_build_spec.specs.declared.Judged.{Judged}
-use Rattle.processor_build_spec.specs.Plans.{refused_with, judged, judged_of, no_record, narrowed, record_of, stored, laid_of, Ended, ended, slc_with, finish_of}
+use Rattle.processor_build_spec.specs.declared.Sums.{Sums}
+use Rattle.processor_build_spec.specs.Plans.{judged, judged_of, no_record, narrowed, record_of, stored, laid_of, laid_by, Ended, ended, slc_with, finish_of}
 
 -- ---- the records of a good table are as narrow as their fields
 code_byte : (code : ℕ) → known_code code ≡ true → code < 256
@@ -78,16 +80,21 @@ module _ (fs : List (List ℕ)) (rs : List FileRecord) (are : (i : ℕ) → reco
       let m : min (length rs) (length old) ≡ length rs = omega arith in
       ap (λ (k : ℕ). stored fs k old) m ∙ stored_is (length rs) old (omega arith) h ∙ ap (λ (x : List FileRecord). x ++ drop (length rs) old) (take-length rs)
 
-laid_none : (fs : List (List ℕ)) (old : List FileRecord) → laid_of fs 0 old ≡ old
-unfolding laid_of stored
-laid_none fs old = let m : min 0 (length old) ≡ 0 = omega arith in ap (λ (k : ℕ). stored fs k old) m
+module _ (fs : List (List ℕ)) (j : Result Sums Refusal) (old t : List FileRecord) where
+  pub lays_these : (s : Sums) → j ≡ Ok s → t ≡ laid_of fs s.records old → t ≡ laid_by fs j old
+  unfolding laid_by
+  lays_these s e q = rw e q
+
+  pub lays_none : (e : Refusal) → j ≡ Err e → t ≡ old → t ≡ laid_by fs j old
+  unfolding laid_by
+  lays_none e p q = rw p q
 
 -- ---- the parts together
 module _ (fs : List (List ℕ)) (text log : List ℕ) (count : ℕ) (table : List FileRecord) (memory : List ℕ) where
   abbrev p : Plan
   p = plan_of fs text log count
 
-  module _ (e : build_refusal p (length table) (length memory) ≡ none) where
+  module _ (e : build_refusal p (length table) (length memory) ≡ None) where
     good : good_table (planned p) ≡ true
     good = sound_table (built_state p table memory e) (built_sound p table memory e)
 
@@ -102,34 +109,29 @@ module _ (fs : List (List ℕ)) (text log : List ℕ) (count : ℕ) (table : Lis
     unfolding build_refusal fits
     room = go (file_refusal [] (or_defaults (map wanted_of fs))) (good_text text) (fits (planned p) (length table) (length memory)) refl (log_fits count log) e
       where
-        go : (o : Option ℕ) (x y : Bool) → fits (planned p) (length table) (length memory) ≡ y → (l : Bool) → or_then o (cond x (cond y (cond l none (some 15)) (some 14)) (some 13)) ≡ none
+        go : (o : Option Refusal) (x y : Bool) → fits (planned p) (length table) (length memory) ≡ y → (l : Bool) → or_then o (cond x (cond y (cond l None (Some UnusableDatalog)) (Some FilesBeyondRoom)) (Some UnusableTypeText)) ≡ None
             → (length (planned p) ≤ length table) × (total (planned p) ≤ length memory)
-        go (some k) x y f l e = no_some (sym e)
-        go none false y f l e = no_some (sym e)
-        go none true false f l e = no_some (sym e)
-        go none true true f l e = (leb-true (length (planned p)) (length table) (search (and_l, and_r)), leb-true (total (planned p)) (length memory) (search (and_l, and_r)))
+        go (Some k) x y f l e = no_some (sym e)
+        go None false y f l e = no_some (sym e)
+        go None true false f l e = no_some (sym e)
+        go None true true f l e = (leb-true (length (planned p)) (length table) (search (and_l, and_r)), leb-true (total (planned p)) (length memory) (search (and_l, and_r)))
 
     built_ready : (b : Built) (t : List FileRecord) (m : List ℕ) → t ≡ laid_of fs (length (planned p)) table
-        → ended b m ≡ finish_of (judged none (planned p)) text count memory → raised b t m ≡ raise none p table memory
+        → ended b m ≡ finish_of (judged None (planned p)) text count memory → raised b t m ≡ raise None p table memory
     unfolding finish_of slc_of slc_with
     built_ready b t m et em =
         let k : min (total (planned p)) (length memory) ≡ total (planned p) = omega (arith, room.1) in
         let q : t ≡ planned p ++ drop (length (planned p)) table = et ∙ laid_all fs (planned p) are table room.0 in
-        let w : ended b m ≡ ended (raise none p table memory).built (put memory 0 (replicate (total (planned p)) 0)) = em ∙ ap (λ (j : ℕ). ended (raise none p table memory).built (put memory 0 (replicate j 0))) k in
+        let w : ended b m ≡ ended (raise None p table memory).built (put memory 0 (replicate (total (planned p)) 0)) = em ∙ ap (λ (j : ℕ). ended (raise None p table memory).built (put memory 0 (replicate j 0))) k in
         ap₂ (λ (x : Ended) (y : List FileRecord). raised x.built y x.memory) w q
 
-  built_refused : (n : ℕ) (b : Built) (t : List FileRecord) (m : List ℕ) → t ≡ laid_of fs 0 table
-      → ended b m ≡ finish_of (refused_with n) text count memory → raised b t m ≡ raise (some n) p table memory
-  unfolding finish_of refused_with
-  built_refused n b t m et em = ap₂ (λ (x : Ended) (y : List FileRecord). raised x.built y x.memory) em (et ∙ laid_none fs table)
-
   -- what is judged, then laid, then finished, is what `new_of` gives
-  pub new_is : (j : Judged) (b : Built) (t : List FileRecord) (m : List ℕ) → j ≡ judged_of p (length table) (length memory) → t ≡ laid_of fs j.records table
+  pub new_is : (j : Result Sums Refusal) (b : Built) (t : List FileRecord) (m : List ℕ) → j ≡ judged_of p (length table) (length memory) → t ≡ laid_by fs j table
       → ended b m ≡ finish_of j text count memory → raised b t m ≡ new_of p table memory
-  unfolding new_of judged_of
+  unfolding new_of judged_of laid_by finish_of
   new_is j b t m ej et em = go (build_refusal p (length table) (length memory)) refl ej
     where
-      go : (o : Option ℕ) → build_refusal p (length table) (length memory) ≡ o → j ≡ judged o (planned p) → raised b t m ≡ raise o p table memory
-      go none e q = built_ready e b t m (et ∙ ap (λ (x : Judged). laid_of fs x.records table) q) (em ∙ ap (λ (x : Judged). finish_of x text count memory) q)
-      go (some n) e q =
-          built_refused n b t m (et ∙ ap (λ (x : Judged). laid_of fs x.records table) q ∙ unfold refused_with in refl) (em ∙ ap (λ (x : Judged). finish_of x text count memory) q)
+      go : (o : Option Refusal) → build_refusal p (length table) (length memory) ≡ o → j ≡ judged o (planned p) → raised b t m ≡ raise o p table memory
+      go None e q = built_ready e b t m (et ∙ ap (λ (x : Result Sums Refusal). laid_by fs x table) q) (em ∙ ap (λ (x : Result Sums Refusal). finish_of x text count memory) q)
+      go (Some n) e q =
+          ap₂ (λ (x : Ended) (y : List FileRecord). raised x.built y x.memory) (em ∙ ap (λ (x : Result Sums Refusal). finish_of x text count memory) q) (et ∙ ap (λ (x : Result Sums Refusal). laid_by fs x table) q)

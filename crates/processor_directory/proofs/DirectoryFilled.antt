@@ -1,10 +1,10 @@
 -- The rows that are stored over zeros are processor_spec's directory.
+use Rattle.std.specs.Prelude.{Option, None, Some}
 use Prim.Native.Nat.{ℕ, zero, suc, ◌+◌, ◌*◌, ◌-◌, ◌/◌, ◌%◌, ◌<◌, ◌≤◌}
 use Prim.Native.String.{String}
 use mathlib.Core.Path.{◌≡◌, refl, sym, ap, subst, ◌∙◌}
 use mathlib.Core.Bool.{Bool, true, false, cond}
 use mathlib.Core.List.{List, [], ◌∷◌, ◌++◌, append_assoc}
-use mathlib.Core.Option.{Option, none, some}
 use native.Mathlib.Nat.{mul-le-mul, mul_comm, le_refl}
 use native.Mathlib.Omega.{arith}
 use borrow.Author.Tests.{leb-true, eqb-true, eqb-false, ltb-true, ltb-false, lt-ltb, le-ltb, ne_eqb, eq-eqb}
@@ -188,11 +188,11 @@ module _ (first row count : ℕ) (fits : first + row * count ≤ 2793) (wide : 3
   marked_is (suc k) l =
       let at : row_at first row k < 2793 = omega (arith, within first row count fits k (omega arith)) in
       let len : row_at first row k < length (array first row count fits (marks k)) = subst (λ (n : ℕ). row_at first row k < n) (sym (array_length first row count fits (marks k))) at in
-      let none : length (marks k k) ≤ 1 = subst (λ (b : Bool). length (cond b no_file []) ≤ 1) (sym (le-ltb k k (omega arith))) (omega arith) in
+      let None : length (marks k k) ≤ 1 = subst (λ (b : Bool). length (cond b no_file []) ≤ 1) (sym (le-ltb k k (omega arith))) (omega arith) in
       ap (λ (d : List ℕ). marked_at d (row_at first row k)) (marked_is k (omega arith))
       ∙ rw (lt-ltb (row_at first row k) 2793 at)
       (put_one (array first row count fits (marks k)) (row_at first row k) 0x81 len
-      ∙ put_array first row count fits (marks k) k no_file (omega arith) none (omega arith)
+      ∙ put_array first row count fits (marks k) k no_file (omega arith) None (omega arith)
       ∙ array_same first row count fits (changed (marks k) k no_file) (marks (suc k)) (λ i b. marks_next k i))
 
   -- ---- "code and length word"
@@ -220,10 +220,10 @@ module _ (first row count : ℕ) (fits : first + row * count ≤ 2793) (wide : 3
   -- ---- record by record
 
   abbrev over : Option FileRecord → List ℕ → List ℕ
-  over none bs = bs
-  over (some r) bs = r.code ∷ low_first 2 r.length
+  over None bs = bs
+  over (Some r) bs = r.code ∷ low_first 2 r.length
 
-  absent : (m : ℕ) (rs : List FileRecord) (k : ℕ) → ascend k rs ≡ true → m < k → find m rs ≡ none
+  absent : (m : ℕ) (rs : List FileRecord) (k : ℕ) → ascend k rs ≡ true → m < k → find m rs ≡ None
   unfolding ascend find
   absent m [] k a l = refl
   absent m (r ∷ rs) k a l =
@@ -231,14 +231,14 @@ module _ (first row count : ℕ) (fits : first + row * count ≤ 2793) (wide : 3
       rw (ne_eqb r.number m (λ e. omega arith)) (absent m rs (suc r.number) (and_r (leb k r.number) _ a) (omega arith))
 
   over_short : (o : Option FileRecord) (bs : List ℕ) → length bs ≤ 3 → length (over o bs) ≤ 3
-  over_short none bs h = h
-  over_short (some r) bs h = let e : length (low_first 2 r.length) ≡ 2 = low_length 2 r.length in omega arith
+  over_short None bs h = h
+  over_short (Some r) bs h = let e : length (low_first 2 r.length) ≡ 2 = low_length 2 r.length in omega arith
 
   changed_short : (h : ℕ → List ℕ) (r : FileRecord) → ((i : ℕ) → length (h i) ≤ 3) → (i : ℕ) → length (changed h r.number (r.code ∷ low_first 2 r.length) i) ≤ 3
   changed_short h r s i = by_test_lem (eqb i r.number)
     where
       by_test_lem : (b : Bool) → length (cond b (r.code ∷ low_first 2 r.length) (h i)) ≤ 3
-      by_test_lem true = over_short (some r) [] (omega arith)
+      by_test_lem true = over_short (Some r) [] (omega arith)
       by_test_lem false = s i
 
   filled : (rs : List FileRecord) (k : ℕ) (h : ℕ → List ℕ) → ascend k rs ≡ true → every (λ (r : FileRecord). ltb r.number count) rs ≡ true → ((i : ℕ) → length (h i) ≤ 3)
@@ -254,7 +254,7 @@ module _ (first row count : ℕ) (fits : first + row * count ≤ 2793) (wide : 3
       up = and_r (leb k r.number) _ a
 
       at : (i : ℕ) (b : Bool) → eqb i r.number ≡ b
-          → over (find i rs) (cond (eqb i r.number) (r.code ∷ low_first 2 r.length) (h i)) ≡ over (cond (eqb r.number i) (some r) (find i rs)) (h i)
+          → over (find i rs) (cond (eqb i r.number) (r.code ∷ low_first 2 r.length) (h i)) ≡ over (cond (eqb r.number i) (Some r) (find i rs)) (h i)
       at i true t =
           let is : i ≡ r.number = eqb-true i r.number t in
           rw (t, eq-eqb r.number i (sym is), absent i rs (suc r.number) up (omega arith))
@@ -280,8 +280,8 @@ all_below k n count (r ∷ rs) a l =
     rw (lt-ltb r.number count (omega arith)) (all_below (suc r.number) r.number count rs up l)
 
 abbrev row_bytes : Option FileRecord → List ℕ
-row_bytes none = no_file
-row_bytes (some r) = r.code ∷ low_first 2 r.length
+row_bytes None = no_file
+row_bytes (Some r) = r.code ∷ low_first 2 r.length
 
 lines_are : (rs : List FileRecord) (row n c : ℕ) → lines (λ i. row_bytes (find i rs)) row n c ≡ file_rows rs row n c
 unfolding lines file_rows
@@ -289,8 +289,8 @@ lines_are rs row n zero = refl
 lines_are rs row n (suc c) = rw (lines_are rs row (suc n) c, is (find n rs))
   where
     is : (o : Option FileRecord) → fitted row 0 (row_bytes o) ≡ file_row row o
-    is none = refl
-    is (some r) = refl
+    is None = refl
+    is (Some r) = refl
 
 module _ (rs : List FileRecord) (sys : Sys0Info) where
   abbrev first : ℕ
@@ -324,8 +324,8 @@ module _ (rs : List FileRecord) (sys : Sys0Info) where
       short false = omega arith
 
       same : (o : Option FileRecord) → over first row count fits wide o no_file ≡ row_bytes o
-      same none = refl
-      same (some r) = refl
+      same None = refl
+      same (Some r) = refl
 
 -- of each family, by one test over their table
 family_wide : (xs : List (String × Sys0Info)) (s : List ℕ) → every (λ (x : String × Sys0Info). leb 3 x.1.row_size) xs ≡ true → leb 3 (family_in xs s).row_size ≡ true

@@ -8,7 +8,7 @@ use processor_spec::FileRecord;
 fn row_at(first: u8, row: u8, number: u16) -> usize
     ensures { result ≡ row_at first row number }
 {
-    (first as usize) + (row as usize) * (number as usize)
+    usize::from(first) + usize::from(row) * usize::from(number)
 }
 
 fn mark(d: &mut [u8; 2793], at: usize)
@@ -24,11 +24,8 @@ pub fn blank(first: u8, row: u8, rows: u16) -> [u8; 2793]
     ensures { result ≡ blank_of first row rows }
 {
     let mut d = [0u8; 2793];
-    let mut k: u16 = 0;
-    while k < rows {
-        let at = row_at(first, row, k);
-        mark(&mut d, at);
-        k += 1;
+    for k in 0..rows {
+        mark(&mut d, row_at(first, row, k));
     }
     d
 }

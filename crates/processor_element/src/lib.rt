@@ -7,7 +7,8 @@ ghost use Rattle.element_spec.specs.Encode.{Stores};
 ghost use Rattle.processor_spec.specs.ElementAccess.{read_of, set_of};
 ghost use Rattle.processor_spec.specs.Plain.{state_of};
 
-use element_spec::{Element, Stored};
+use base::Refusal;
+use element_spec::Element;
 use processor_element_core::{Setting, Spot};
 use processor_spec::{FileRecord, Slc};
 
@@ -19,7 +20,7 @@ pub fn read(
     log: &[u8],
     w: Spot,
     text: &mut [u8],
-) -> Element
+) -> Result<Element, Refusal>
     ensures { Reads (read_of (state_of slc table.now memory.now log.now) w.file_type w.number w.element (length text.old)) text.old result text.new }
 {
     let s = processor_table::survey(table, slc.files, w.number);
@@ -34,7 +35,7 @@ pub fn set(
     log: &[u8],
     w: Setting,
     text: &[u8],
-) -> Stored
+) -> Result<(), Refusal>
     ensures { Stores (set_of (state_of slc table.now memory.old log.now) w.file_type w.number w.element w.value text.now) memory.old result memory.new }
 {
     let s = processor_table::survey(table, slc.files, w.number);

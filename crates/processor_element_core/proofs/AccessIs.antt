@@ -1,13 +1,14 @@
 -- What is read and set by the survey of the table is what is read and set of the state.
+use Rattle.std.specs.Prelude.{Option, None, Some, option_and_then}
 use Prim.Native.Nat.{ℕ, ◌+◌, ◌*◌, ◌<◌}
 use mathlib.Core.Path.{◌≡◌, refl, sym, ap, ap₂, subst, ◌∙◌}
 use mathlib.Core.Bool.{Bool, true, false, ◌&&◌, cond}
 use mathlib.Core.List.{List, [], ◌∷◌}
-use mathlib.Core.Option.{Option, none, some}
 use native.Mathlib.Omega.{arith}
 use borrow.Author.Tests.{eqb-true, ltb-true}
 use lib.Dec.{leb, eqb}
 use lib.ListN.{length, take}
+use Rattle.base.specs.declared.refusal.Refusal.TheVariants.{Unsound}
 use Rattle.base.specs.Outcome.{refused}
 use Rattle.element_spec.specs.Decode.{refuses}
 use Rattle.file_type.specs.declared.FileType.{FileType}
@@ -25,10 +26,10 @@ use Rattle.processor_spec.proofs.Plain.{sound_within, held_is}
 use Rattle.processor_spec.proofs.Tests.{and_l, and_r}
 use Rattle.processor_soundness.proofs.Surveyed.{sound_is}
 use Rattle.processor_table.specs.declared.Seen.{Seen}
-use Rattle.processor_table.specs.Survey.{there, or_none, told_of, survey_of}
+use Rattle.processor_table.specs.Survey.{told_of, survey_of}
 use Rattle.processor_element_core.specs.declared.Setting.{Setting}
 use Rattle.processor_element_core.specs.declared.Spot.{Spot}
-use Rattle.processor_element_core.specs.AccessBySurvey.{element_by, read_by, set_by}
+use Rattle.processor_element_core.specs.AccessBySurvey.{element_in, element_by, read_by, set_by}
 
 -- ---- 16
 module _ (slc : Slc) (table : List FileRecord) (memory log : List ℕ) (number : ℕ) where
@@ -55,12 +56,12 @@ module _ (slc : Slc) (table : List FileRecord) (memory log : List ℕ) (number :
     told = let w : within slc table log ≡ true = inside in let l : leb slc.files (length table) ≡ true = search (and_l, and_r) in rw (l, good)
 
 -- ---- 19
-good_found : (n : ℕ) (rs : List FileRecord) (r : FileRecord) → every good_record rs ≡ true → find n rs ≡ some r → good_record r ≡ true
+good_found : (n : ℕ) (rs : List FileRecord) (r : FileRecord) → every good_record rs ≡ true → find n rs ≡ Some r → good_record r ≡ true
 unfolding every find
 good_found n [] r g e = no_some e
 good_found n (x ∷ xs) r g e = go (eqb x.number n) e (good_found n xs r (and_r (good_record x) _ g))
   where
-    go : (b : Bool) → cond b (some x) (find n xs) ≡ some r → (find n xs ≡ some r → good_record r ≡ true) → good_record r ≡ true
+    go : (b : Bool) → cond b (Some x) (find n xs) ≡ Some r → (find n xs ≡ Some r → good_record r ≡ true) → good_record r ≡ true
     go true e ih = let q : x ≡ r = cc in subst (λ (z : FileRecord). good_record z ≡ true) q (and_l _ _ g)
     go false e ih = ih e
 
@@ -80,14 +81,13 @@ module _ (rs : List FileRecord) (g : good_table rs ≡ true) (number : ℕ) (t :
   element_is = go (find number rs) refl
     where
       go : (o : Option FileRecord) → find number rs ≡ o
-          → cond (there o && eqb (or_none o).code (row t).code && leb (element * (row t).size + (row t).size) (or_none o).length) (some ((or_none o).start + element * (row t).size)) none
-          ≡ place_in o (row t).code element 0 (row t).size
-      go none e = refl
-      go (some r) e = by_type (eqb r.code (row t).code) refl
+          → option_and_then (element_in t element) o ≡ place_in o (row t).code element 0 (row t).size
+      go None e = refl
+      go (Some r) e = by_type (eqb r.code (row t).code) refl
         where
           by_type : (b : Bool) → eqb r.code (row t).code ≡ b
-              → cond (b && leb (element * (row t).size + (row t).size) r.length) (some (r.start + element * (row t).size)) none
-              ≡ cond (b && leb (offset r element 0 + (row t).size) r.length) (some (r.start + offset r element 0)) none
+              → cond (b && leb (element * (row t).size + (row t).size) r.length) (Some (r.start + element * (row t).size)) None
+              ≡ cond (b && leb (offset r element 0 + (row t).size) r.length) (Some (r.start + offset r element 0)) None
           by_type false q = refl
           by_type true q =
               let all-good : every good_record rs ≡ true = search (and_l, and_r) in
@@ -122,11 +122,11 @@ module _ (slc : Slc) (table : List FileRecord) (memory log : List ℕ) where
   pub read_is : (w : Spot) (room : ℕ) → read_by slc (survey_of table slc.files w.number) w memory log room ≡ read_of state w.file_type w.number w.element room
   unfolding read_by read_of
   read_is w room =
-      ap (λ (b : Bool). cond b (read_at (element_by (survey_of table slc.files w.number) w.file_type w.element) w.file_type memory room) (refuses 16)) (sound_is slc table memory log w.number)
+      ap (λ (b : Bool). cond b (read_at (element_by (survey_of table slc.files w.number) w.file_type w.element) w.file_type memory room) (refuses Unsound)) (sound_is slc table memory log w.number)
       ∙ go (sound state) refl
     where
-      go : (b : Bool) → sound state ≡ b → cond b (read_at (element_by (survey_of table slc.files w.number) w.file_type w.element) w.file_type memory room) (refuses 16)
-          ≡ cond b (read_at (element_at state w.file_type w.number w.element) w.file_type state.memory room) (refuses 16)
+      go : (b : Bool) → sound state ≡ b → cond b (read_at (element_by (survey_of table slc.files w.number) w.file_type w.element) w.file_type memory room) (refuses Unsound)
+          ≡ cond b (read_at (element_at state w.file_type w.number w.element) w.file_type state.memory room) (refuses Unsound)
       go false h = refl
       go true h = ap₂ (λ (o : Option ℕ) (m : List ℕ). read_at o w.file_type m room) (element_there h w.number w.file_type w.element) (sym memory_is)
 
@@ -134,10 +134,10 @@ module _ (slc : Slc) (table : List FileRecord) (memory log : List ℕ) where
       → set_by slc (survey_of table slc.files w.number) w memory log text ≡ set_of state w.file_type w.number w.element w.value text
   unfolding set_by set_of
   set_is w text =
-      ap (λ (b : Bool). cond b (set_at (element_by (survey_of table slc.files w.number) w.file_type w.element) w.file_type w.value text memory) (refused 16)) (sound_is slc table memory log w.number)
+      ap (λ (b : Bool). cond b (set_at (element_by (survey_of table slc.files w.number) w.file_type w.element) w.file_type w.value text memory) (refused Unsound)) (sound_is slc table memory log w.number)
       ∙ go (sound state) refl
     where
-      go : (b : Bool) → sound state ≡ b → cond b (set_at (element_by (survey_of table slc.files w.number) w.file_type w.element) w.file_type w.value text memory) (refused 16)
-          ≡ cond b (set_at (element_at state w.file_type w.number w.element) w.file_type w.value text state.memory) (refused 16)
+      go : (b : Bool) → sound state ≡ b → cond b (set_at (element_by (survey_of table slc.files w.number) w.file_type w.element) w.file_type w.value text memory) (refused Unsound)
+          ≡ cond b (set_at (element_at state w.file_type w.number w.element) w.file_type w.value text state.memory) (refused Unsound)
       go false h = refl
       go true h = ap₂ (λ (o : Option ℕ) (m : List ℕ). set_at o w.file_type w.value text m) (element_there h w.number w.file_type w.element) (sym memory_is)

@@ -1,15 +1,16 @@
 -- 19: the place of an element, and the part of the data memory that it has.
+use Rattle.std.specs.Prelude.{None, Some}
 use Prim.Native.Nat.{ℕ, suc, ◌+◌, ◌*◌, ◌/◌, ◌≤◌, ◌<◌, ◌^◌}
 use mathlib.Core.Path.{◌≡◌, refl, sym, ap₂, subst, ◌∙◌}
-use mathlib.Core.Bool.{Bool, true, false, not}
-use mathlib.Core.Option.{none, some}
+use mathlib.Core.Bool.{Bool, true, false}
 use native.Mathlib.Nat.{div-lt_iff_lt-mul, suc-mul}
 use native.Mathlib.Omega.{arith}
-use borrow.Author.Tests.{leb-true, leb-false, le-leb, lt-leb, eq-eqb, ne_eqb, not-true, not-false}
+use borrow.Author.Tests.{leb-true, leb-false, le-leb, lt-leb, eq-eqb, ne_eqb}
 use lib.Dec.{leb, eqb}
 use Rattle.file_type.specs.declared.FileType.{FileType}
 use Rattle.file_type.specs.Table.{row}
 use Rattle.file_type.proofs.FileTypes.{size_some}
+use Rattle.processor_spec.specs.declared.FileRecord.{FileRecord}
 use Rattle.processor_table.specs.declared.Seen.{Seen}
 use Rattle.processor_element_core.specs.AccessBySurvey.{element_by}
 
@@ -32,40 +33,40 @@ inside l size i p h = go (leb (i * size + size) l) refl
         absurd (omega arith)
 
 module _ (s : Seen) (t : FileType) (element : ℕ) where
-  pub no_file : not s.hit ≡ true → none ≡ element_by s t element
+  pub no_file : s.found ≡ None → None ≡ element_by s t element
   unfolding element_by
-  no_file h = rw (not-true s.hit h)
+  no_file h = rw h
 
-  module _ (hit : not s.hit ≡ false) (code : ℕ) (e : code ≡ (row t).code) where
-    pub other_type : (s.found.code ≡ code → ⊥) → none ≡ element_by s t element
+  module _ (r : FileRecord) (found : s.found ≡ Some r) (code : ℕ) (e : code ≡ (row t).code) where
+    pub other_type : (r.code ≡ code → ⊥) → None ≡ element_by s t element
     unfolding element_by
-    other_type ne = rw (not-false s.hit hit, ne_eqb s.found.code (row t).code (λ q. ne (q ∙ sym e)))
+    other_type ne = rw (found, ne_eqb r.code (row t).code (λ q. ne (q ∙ sym e)))
 
-    module _ (is : s.found.code ≡ code) (size : ℕ) (es : size ≡ (row t).size) (l : ℕ) (el : (l ≡ s.found.length) × (l ≤ 65535)) where
-      typed : eqb s.found.code (row t).code ≡ true
-      typed = eq-eqb s.found.code (row t).code (is ∙ e)
+    module _ (is : r.code ≡ code) (size : ℕ) (es : size ≡ (row t).size) (l : ℕ) (el : l ≡ r.length) where
+      typed : eqb r.code (row t).code ≡ true
+      typed = eq-eqb r.code (row t).code (is ∙ e)
 
-      pub past_end : l / size ≤ element → none ≡ element_by s t element
+      pub past_end : l / size ≤ element → None ≡ element_by s t element
       unfolding element_by
       past_end h =
           let g : l < element * size + size = past l size element (size_divides t size es) h in
-          let z : leb (element * (row t).size + (row t).size) s.found.length ≡ false = rw (sym es, sym el.0) (lt-leb (element * size + size) l g) in
-          rw (not-false s.hit hit, typed, z)
+          let z : leb (element * (row t).size + (row t).size) r.length ≡ false = rw (sym es, sym el) (lt-leb (element * size + size) l g) in
+          rw (found, typed, z)
 
-      pub place_is : (start : ℕ) → element < l / size → (start ≡ s.found.start) × (start ≤ 65535) → some (start + element * size) ≡ element_by s t element
+      pub place_is : (start : ℕ) → start ≡ r.start → element < l / size → Some (start + element * size) ≡ element_by s t element
       unfolding element_by
-      place_is start h eo =
+      place_is start eo h =
           let g : element * size + size ≤ l = inside l size element (size_divides t size es) h in
-          let z : leb (element * (row t).size + (row t).size) s.found.length ≡ true = rw (sym es, sym el.0) (le-leb (element * size + size) l g) in
-          rw (not-false s.hit hit, typed, z) (ap₂ (λ (a b : ℕ). some (a + element * b)) eo.0 es)
+          let z : leb (element * (row t).size + (row t).size) r.length ≡ true = rw (sym es, sym el) (le-leb (element * size + size) l g) in
+          rw (found, typed, z) (ap₂ (λ (a b : ℕ). Some (a + element * b)) eo es)
 
 -- no sum wraps
-module _ (t : FileType) (size l element : ℕ) (es : size ≡ (row t).size) (small : l ≤ 65535) (h : element < l / size) where
+module _ (t : FileType) (size l element : ℕ) (es : size ≡ (row t).size) (small : l < 2 ^ 16) (h : element < l / size) where
   held : element * size + size ≤ l
   held = inside l size element (size_divides t size es) h
 
   pub offset_fits : element * size < 2 ^ 64
   offset_fits = omega (arith, held)
 
-  pub place_fits : (start : ℕ) → start ≤ 65535 → start + element * size < 2 ^ 64
+  pub place_fits : (start : ℕ) → start < 2 ^ 16 → start + element * size < 2 ^ 64
   place_fits start k = omega (arith, held)

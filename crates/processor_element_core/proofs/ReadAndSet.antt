@@ -1,4 +1,5 @@
 -- Reading and setting, question by question.
+use Rattle.std.specs.Prelude.{Option, None, Some, Result, Ok, Err, ok_or}
 use Prim.Native.Nat.{ℕ, ◌+◌, ◌-◌, ◌≤◌, ◌<◌, min}
 use mathlib.Core.Path.{◌≡◌, refl, sym, ap, subst, ◌∙◌}
 use mathlib.Core.Bool.{Bool, true, false, not}
@@ -8,14 +9,13 @@ use borrow.Author.Tests.{leb-true, leb-false, lt-ltb, not-true, not-false}
 use lib.Dec.{leb}
 use lib.ListN.{length, take, drop, length-append, length-take, length-drop, take-append-drop}
 use lib.Seq.{length-take-le, take-add, take-take, drop-drop, drop-append-le}
+use Rattle.base.specs.declared.refusal.Refusal.{Refusal}
+use Rattle.base.specs.declared.refusal.Refusal.TheVariants.{Unsound, NoSuchElement}
 use Rattle.base.specs.Outcome.{Outcome, refused, lays}
 use Rattle.base.specs.Put.{put}
 use Rattle.base.proofs.Put.{put_none}
 use Rattle.element_spec.specs.declared.Element.{Element}
-use Rattle.element_spec.specs.declared.Element.TheVariants as element
 use Rattle.element_spec.specs.Decode.{Says, Reads, decoded}
-use Rattle.element_spec.specs.declared.Stored.{Stored}
-use Rattle.element_spec.specs.declared.Stored.TheVariants as stored
 use Rattle.element_spec.specs.declared.Value.{Value}
 use Rattle.element_spec.specs.Encode.{Stores, encoded}
 use Rattle.file_type.specs.declared.FileType.{FileType}
@@ -25,55 +25,64 @@ use Rattle.processor_spec.specs.declared.Slc.{Slc}
 use Rattle.processor_spec.specs.ElementAccess.{behind, set_at, read_at}
 use Rattle.processor_table.specs.declared.Seen.{Seen}
 use Rattle.processor_soundness.specs.Sound.{sound_by}
-use Rattle.processor_locate.specs.declared.Located.{Located}
-use Rattle.processor_locate.specs.declared.Located.TheVariants as place
-use Rattle.processor_locate.specs.Locate.{place_of}
 use Rattle.processor_element_core.specs.declared.Setting.{Setting}
 use Rattle.processor_element_core.specs.declared.Spot.{Spot}
 use Rattle.processor_element_core.specs.AccessBySurvey.{element_by, read_by, set_here, set_by}
 
+not_both : {A B : Type 0} {x : B} {n : Refusal} → ◌≡◌ {A = Result B Refusal} (Ok x) (Err n) → A
+not_both e = absurd (let z : ◌≡◌ {A = ℕ} 0 1 = cc in omega arith)
+
+-- a place that is there, or isn't
+pub is_there : (p : Option ℕ) (r : Result ℕ Refusal) (at : ℕ) → r ≡ ok_or p NoSuchElement → r ≡ Ok at → p ≡ Some at
+is_there None r at e f = not_both (sym f ∙ e)
+is_there (Some x) r at e f = let g : Ok x ≡ Ok at = sym e ∙ f in cc
+
+pub not_there : (p : Option ℕ) (r : Result ℕ Refusal) (n : Refusal) → r ≡ ok_or p NoSuchElement → r ≡ Err n → (p ≡ None) × (n ≡ NoSuchElement)
+not_there None r n e f = let g : Err n ≡ Err NoSuchElement = sym f ∙ e in (refl, cc)
+not_there (Some x) r n e f = not_both (sym e ∙ f)
+
 -- ---- reading
 module _ (slc : Slc) (s : Seen) (w : Spot) (memory log text : List ℕ) (y : Bool) (ey : y ≡ sound_by slc s (length memory) log) where
-  pub read_unsound : not y ≡ true → Reads (read_by slc s w memory log (length text)) text (element.Refused 16) text
+  pub read_unsound : not y ≡ true → Reads (read_by slc s w memory log (length text)) text (Err Unsound) text
   unfolding read_by
   read_unsound t = rw (sym ey ∙ not-true y t) (record { answer = refl; memory = refl })
 
-  module _ (on : not y ≡ false) (p : Located) (ep : place_of p ≡ element_by s w.file_type w.element) where
-    at_place : read_by slc s w memory log (length text) ≡ read_at (place_of p) w.file_type memory (length text)
+  module _ (on : not y ≡ false) (p : Option ℕ) (ep : p ≡ element_by s w.file_type w.element) where
+    at_place : read_by slc s w memory log (length text) ≡ read_at p w.file_type memory (length text)
     unfolding read_by
     at_place = rw (sym ey ∙ not-false y on, ep)
 
-    pub read_none : p ≡ place.No → Reads (read_by slc s w memory log (length text)) text (element.Refused 19) text
+    pub read_none : p ≡ None → Reads (read_by slc s w memory log (length text)) text (Err NoSuchElement) text
     read_none e =
-        rw (at_place ∙ ap (λ (q : Located). read_at (place_of q) w.file_type memory (length text)) e) (record { answer = refl; memory = refl })
+        rw (at_place ∙ ap (λ (q : Option ℕ). read_at q w.file_type memory (length text)) e) (record { answer = refl; memory = refl })
 
-    pub read_there : (at size : ℕ) (part : List ℕ) (r : Element) (text' : List ℕ) → p ≡ place.At at → size ≡ (row w.file_type).size → part ≡ take size (drop at memory)
+    pub read_there : (at size : ℕ) (part : List ℕ) (r : Result Element Refusal) (text' : List ℕ) → p ≡ Some at → size ≡ (row w.file_type).size → part ≡ take size (drop at memory)
         → Reads (decoded w.file_type part (length text)) text r text' → Reads (read_by slc s w memory log (length text)) text r text'
     read_there at size part r text' e es eb d =
         subst (λ (o : Says). Reads o text r text')
-        (sym (at_place ∙ ap (λ (q : Located). read_at (place_of q) w.file_type memory (length text)) e ∙ ap (λ (x : List ℕ). decoded w.file_type x (length text)) (sym (eb ∙ ap (λ (k : ℕ). take k (drop at memory)) es))))
+        (sym (at_place ∙ ap (λ (q : Option ℕ). read_at q w.file_type memory (length text)) e ∙ ap (λ (x : List ℕ). decoded w.file_type x (length text)) (sym (eb ∙ ap (λ (k : ℕ). take k (drop at memory)) es))))
         d
 
 -- ---- setting
 module _ (slc : Slc) (s : Seen) (w : Setting) (memory log text : List ℕ) (y : Bool) (ey : y ≡ sound_by slc s (length memory) log) where
-  pub set_unsound : not y ≡ true → Stores (set_by slc s w memory log text) memory (stored.Refused 16) memory
+  pub set_unsound : not y ≡ true → Stores (set_by slc s w memory log text) memory (Err Unsound) memory
   unfolding set_by
   set_unsound t = rw (sym ey ∙ not-true y t) (record { answer = refl; memory = refl })
 
-  module _ (on : not y ≡ false) (p : Located) (ep : place_of p ≡ element_by s w.file_type w.element) where
-    set_place : set_by slc s w memory log text ≡ set_at (place_of p) w.file_type w.value text memory
+  module _ (on : not y ≡ false) (p : Option ℕ) (ep : p ≡ element_by s w.file_type w.element) where
+    set_place : set_by slc s w memory log text ≡ set_at p w.file_type w.value text memory
     unfolding set_by
     set_place = rw (sym ey ∙ not-false y on, ep)
 
-    pub set_none : p ≡ place.No → Stores (set_by slc s w memory log text) memory (stored.Refused 19) memory
+    pub set_none : p ≡ None → Stores (set_by slc s w memory log text) memory (Err NoSuchElement) memory
     set_none e =
-        rw (set_place ∙ ap (λ (q : Located). set_at (place_of q) w.file_type w.value text memory) e) (record { answer = refl; memory = refl })
+        rw (set_place ∙ ap (λ (q : Option ℕ). set_at q w.file_type w.value text memory) e) (record { answer = refl; memory = refl })
 
-    pub set_there : (at : ℕ) (r : Stored) (memory' : List ℕ) → p ≡ place.At at → Stores (set_here at w.file_type w.value text memory) memory r memory'
+    pub set_there : (at : ℕ) (r : Result (Unit {0}) Refusal) (memory' : List ℕ) → p ≡ Some at → Stores (set_here at w.file_type w.value text memory) memory r memory'
         → Stores (set_by slc s w memory log text) memory r memory'
     unfolding set_here
     set_there at r memory' e d =
-        subst (λ (o : Outcome). Stores o memory r memory') (sym (set_place ∙ ap (λ (q : Located). set_at (place_of q) w.file_type w.value text memory) e)) d
+        subst (λ (o : Outcome). Stores o memory r memory') (sym (set_place ∙ ap (λ (q : Option ℕ). set_at q w.file_type w.value text memory) e)) d
 
 -- ---- bytes laid over a part
 empty : (l : List ℕ) → length l ≡ 0 → l ≡ []
@@ -119,13 +128,13 @@ module _ (m : List ℕ) (at size : ℕ) (h : at + size ≤ length m) where
           let q : bs ≡ [] = empty bs z in
           ap (λ (x : List ℕ). around (put part p x)) q ∙ ap around (put_none part p) ∙ same ∙ sym (ap (put m (at + p)) q ∙ put_none m (at + p))
 
-  pub set_laid : (o : Outcome) (r : Stored) (part' : List ℕ) → Stores o part r part' → length part' ≡ size → Stores (behind at o) m r (around part')
+  pub set_laid : (o : Outcome) (r : Result (Unit {0}) Refusal) (part' : List ℕ) → Stores o part r part' → length part' ≡ size → Stores (behind at o) m r (around part')
   set_laid (refused n) r part' d l = record { answer = d.answer; memory = ap around d.memory ∙ same }
   set_laid (lays p bs) r part' d l = record { answer = d.answer; memory = ap around d.memory ∙ laid p bs (ap length (sym d.memory) ∙ l) }
 
 -- ---- setting at a place
 module _ (m : List ℕ) (at : ℕ) (t : FileType) (v : Value) (text : List ℕ) (size : ℕ) (es : size ≡ (row t).size) where
-  too_short : length (take (row t).size (drop at m)) < (row t).size → Stores (set_here at t v text m) m (stored.Refused 19) m
+  too_short : length (take (row t).size (drop at m)) < (row t).size → Stores (set_here at t v text m) m (Err NoSuchElement) m
   unfolding set_here encoded
   too_short h = rw (lt-ltb (length (take (row t).size (drop at m))) (row t).size h) (record { answer = refl; memory = refl })
 
@@ -134,13 +143,13 @@ module _ (m : List ℕ) (at : ℕ) (t : FileType) (v : Value) (text : List ℕ) 
       let a : length (take (row t).size (drop at m)) ≡ min (row t).size (length (drop at m)) = length-take (row t).size (drop at m) in
       omega (arith, a, length-drop at m, es, size_some t)
 
-  pub set_past : length m < at → Stores (set_here at t v text m) m (stored.Refused 19) m
+  pub set_past : length m < at → Stores (set_here at t v text m) m (Err NoSuchElement) m
   set_past h = too_short (cut (omega arith))
 
-  pub set_short : at ≤ length m → length m - at < size → Stores (set_here at t v text m) m (stored.Refused 19) m
+  pub set_short : at ≤ length m → length m - at < size → Stores (set_here at t v text m) m (Err NoSuchElement) m
   set_short h l = too_short (cut (omega arith))
 
-  pub set_done : at ≤ length m → size ≤ length m - at → (r : Stored) (part' : List ℕ) → Stores (encoded t v text (take (at + size - at) (drop at m))) (take (at + size - at) (drop at m)) r part'
+  pub set_done : at ≤ length m → size ≤ length m - at → (r : Result (Unit {0}) Refusal) (part' : List ℕ) → Stores (encoded t v text (take (at + size - at) (drop at m))) (take (at + size - at) (drop at m)) r part'
       → length part' ≡ length (take (at + size - at) (drop at m)) → Stores (set_here at t v text m) m r (take at m ++ (part' ++ drop (at + size - at) (drop at m)))
   unfolding set_here
   set_done h l r part' =

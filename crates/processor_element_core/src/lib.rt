@@ -1,15 +1,14 @@
 // Element access: reading and setting one element, by what the survey of the file table tells.
 #![tactic(auto)]
 
-ghost use Rattle.std.specs.Prelude.{◌≡◌, ◌≤◌, length};
+ghost use Rattle.std.specs.Prelude.{◌≡◌, length};
 ghost use Rattle.element_spec.specs.Decode.{Reads};
 ghost use Rattle.element_spec.specs.Encode.{Stores};
-ghost use Rattle.processor_locate.specs.Locate.{place_of};
 ghost use Rattle.processor_element_core.specs.AccessBySurvey.{element_by, read_by, set_here, set_by};
 
-use element_spec::{Element, Stored, Value};
+use base::Refusal;
+use element_spec::{Element, Value};
 use file_type::FileType;
-use processor_locate::Located;
 use processor_spec::Slc;
 use processor_table::Seen;
 
@@ -30,28 +29,19 @@ pub struct Setting {
     pub value: Value,
 }
 
-fn wide(x: u16) -> usize
-    ensures { (result ≡ x) × (result ≤ 65535) }
-{
-    x as usize
-}
-
 // 19: the file that was found, of the given type, and as many elements as its length holds.
-fn locate(s: Seen, t: FileType, element: usize) -> Located
-    ensures { place_of result ≡ element_by s t element }
+fn locate(s: Seen, t: FileType, element: usize) -> Option<usize>
+    ensures { result ≡ element_by s t element }
 {
-    let r = s.found;
-    if !s.hit {
-        return Located::No;
-    }
+    let r = s.found?;
     if r.code != t.code() {
-        return Located::No;
+        return None;
     }
     let size = t.element_size();
-    if wide(r.length) / size <= element {
-        return Located::No;
+    if usize::from(r.length) / size <= element {
+        return None;
     }
-    Located::At(wide(r.start) + element * size)
+    Some(usize::from(r.start) + element * size)
 }
 
 // Reads an element; text is written to the lent memory, which needs 82 bytes for it. A refusal changes nothing.
@@ -62,16 +52,14 @@ pub fn read_element(
     log: &[u8],
     w: Spot,
     text: &mut [u8],
-) -> Element
+) -> Result<Element, Refusal>
     ensures { Reads (read_by slc s w memory.now log.now (length text.old)) text.old result text.new }
 {
     if !processor_soundness::sound(slc, s, memory.len(), log) {
-        return Element::Refused(16);
+        return Err(Refusal::Unsound);
     }
     let t = w.file_type;
-    let Located::At(at) = locate(s, t, w.element) else {
-        return Element::Refused(19);
-    };
+    let at = locate(s, t, w.element).ok_or(Refusal::NoSuchElement)?;
     element_decode::decode_element(
         t,
         processor_locate::part(memory, at, t.element_size()),
@@ -87,31 +75,27 @@ pub fn set_element(
     log: &[u8],
     w: Setting,
     text: &[u8],
-) -> Stored
+) -> Result<(), Refusal>
     ensures { Stores (set_by slc s w memory.old log.now text.now) memory.old result memory.new }
 {
     if !processor_soundness::sound(slc, s, memory.len(), log) {
-        return Stored::Refused(16);
+        return Err(Refusal::Unsound);
     }
     let t = w.file_type;
-    let Located::At(at) = locate(s, t, w.element) else {
-        return Stored::Refused(19);
-    };
-    let v = w.value;
-    set_at(memory, at, t, v, text)
+    let at = locate(s, t, w.element).ok_or(Refusal::NoSuchElement)?;
+    set_at(memory, at, t, w.value, text)
 }
 
 // Sets the element at a place of the data memory; 19 where the memory does not hold it.
-fn set_at(memory: &mut [u8], at: usize, t: FileType, v: Value, text: &[u8]) -> Stored
+fn set_at(memory: &mut [u8], at: usize, t: FileType, v: Value, text: &[u8]) -> Result<(), Refusal>
     ensures { Stores (set_here at t v text.now memory.old) memory.old result memory.new }
 {
     let size = t.element_size();
     if memory.len() < at {
-        return Stored::Refused(19);
+        return Err(Refusal::NoSuchElement);
     }
     if memory.len() - at < size {
-        return Stored::Refused(19);
+        return Err(Refusal::NoSuchElement);
     }
-    let e = at + size;
-    element_encode::encode_element(t, v, text, &mut memory[at..e])
+    element_encode::encode_element(t, v, text, &mut memory[at..at + size])
 }

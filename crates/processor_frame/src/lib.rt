@@ -8,20 +8,14 @@ ghost use Rattle.processor_spec.specs.Ask.{diagnostic as ask_diagnostic};
 ghost use Rattle.processor_spec.specs.Frame.{well_formed, framed as frame_framed};
 ghost use Rattle.processor_frame.specs.Reply.{reply_to};
 
-fn wide(b: u8) -> usize
-    ensures { (result ≡ b) × (result < 256) }
-{
-    b as usize
-}
-
 // The first byte, which counts the requester id including itself.
 pub fn id_len(command: &[u8]) -> usize
     ensures { (result ≡ get_or command.now 0 0) × (result < 256) }
 {
-    if command.len() == 0 {
+    if command.is_empty() {
         return 0;
     }
-    wide(command[0])
+    usize::from(command[0])
 }
 
 // Is the input not empty, its first byte not 0, and its length at least that byte plus 4 (question 18)?
@@ -29,10 +23,7 @@ pub fn well_formed(command: &[u8]) -> bool
     ensures { result ≡ well_formed command.now }
 {
     let n = id_len(command);
-    if n == 0 {
-        return false;
-    }
-    n + 4 <= command.len()
+    n != 0 && n + 4 <= command.len()
 }
 
 // The requester id from the start of the reply memory. The usual id has 7 bytes: they are stored one by one, which a loop of unknown length isn't.
@@ -96,7 +87,7 @@ fn spaced(type_text: [u8; 11], type_len: usize) -> [u8; 11]
     ensures { result ≡ fitted 11 0x20 (take type_len type_text) }
 {
     let mut out = [b' '; 11];
-    let n = base::least(type_len, 11);
+    let n = type_len.min(11);
     base::put_all(&mut out, 0, &type_text[..n]);
     out
 }

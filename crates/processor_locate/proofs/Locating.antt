@@ -1,19 +1,20 @@
 -- Where an access begins, and parts of memories.
+use Rattle.std.specs.Prelude.{Option, None, Some}
 use Prim.Native.Nat.{ℕ, ◌+◌, ◌-◌, ◌*◌, ◌≤◌, ◌<◌, ◌^◌, min}
 use mathlib.Core.Path.{◌≡◌, refl, sym, ap, ◌∙◌}
-use mathlib.Core.Bool.{Bool, true, false, not}
+use mathlib.Core.Bool.{Bool, true, false}
 use mathlib.Core.List.{List, []}
-use mathlib.Core.Option.{none, some}
 use native.Mathlib.Nat.{mul-le-mul}
 use native.Mathlib.Omega.{arith}
 use mir.Syntax.{w64}
 use mir.Val.{Fits}
-use borrow.Author.Tests.{leb-true, leb-false, le-leb, lt-leb, eq-eqb, ne_eqb, not-true, not-false}
+use borrow.Author.Tests.{leb-true, leb-false, le-leb, lt-leb, eq-eqb, ne_eqb}
 use lib.Dec.{leb}
 use lib.ListN.{length, take, drop, length-take, length-drop, drop_of_length-le}
 use lib.Seq.{take_all, take-nil}
 use Rattle.file_type.specs.Table.{element_size}
 use Rattle.file_type.proofs.ElementSizes.{element_most}
+use Rattle.processor_spec.specs.declared.FileRecord.{FileRecord}
 use Rattle.processor_query.specs.declared.Query.{Query}
 use Rattle.processor_table.specs.declared.Seen.{Seen}
 use Rattle.processor_locate.specs.Locate.{locate_by}
@@ -62,24 +63,25 @@ module _ (a b code : ℕ) (h : a < 2 ^ 16) (e : b ≡ element_size code) where
 
 -- ---- the place
 module _ (s : Seen) (q : Query) where
-  pub no_hit : not s.hit ≡ true → none ≡ locate_by s q
+  pub no_record : (o : Option ℕ) → s.found ≡ None → o ≡ None → o ≡ locate_by s q
   unfolding locate_by
-  no_hit h = rw (not-true s.hit h)
+  no_record o h e = rw h e
 
-  module _ (h : not s.hit ≡ false) where
-    pub no_type_lem : (s.found.code ≡ q.code → ⊥) → none ≡ locate_by s q
+  module _ (r : FileRecord) (h : s.found ≡ Some r) where
+    pub no_type_lem : (r.code ≡ q.code → ⊥) → None ≡ locate_by s q
     unfolding locate_by
-    no_type_lem ne = rw (not-false s.hit h, ne_eqb s.found.code q.code ne)
+    no_type_lem ne = rw (h, ne_eqb r.code q.code ne)
 
-    module _ (t : s.found.code ≡ q.code) (e : ℕ) (ee : e ≡ element_size s.found.code) where
-      pub too_long : s.found.length < q.element * e + 2 * q.sub + q.size → none ≡ locate_by s q
+    -- the numbers of the query and the record, as the code widens them
+    module _ (t : r.code ≡ q.code) {e el su si le : ℕ} (ee : e ≡ element_size r.code) (eel : el ≡ q.element) (esu : su ≡ q.sub) (esi : si ≡ q.size) (ele : le ≡ r.length) where
+      pub too_long : le < el * e + 2 * su + si → None ≡ locate_by s q
       unfolding locate_by
       too_long l =
-          let k : s.found.length < q.element * element_size s.found.code + 2 * q.sub + q.size = rw (← ee) l in
-          rw (not-false s.hit h, eq-eqb s.found.code q.code t, lt-leb (q.element * element_size s.found.code + 2 * q.sub + q.size) s.found.length k)
+          let k : r.length < q.element * element_size r.code + 2 * q.sub + q.size = rw (ele, eel, ee, esu, esi) at l in
+          rw (h, eq-eqb r.code q.code t, lt-leb (q.element * element_size r.code + 2 * q.sub + q.size) r.length k)
 
-      pub located : q.element * e + 2 * q.sub + q.size ≤ s.found.length → some (s.found.start + (q.element * e + 2 * q.sub)) ≡ locate_by s q
+      pub located : el * e + 2 * su + si ≤ le → (st : ℕ) → st ≡ r.start → Some (st + (el * e + 2 * su)) ≡ locate_by s q
       unfolding locate_by
-      located l =
-          let k : q.element * element_size s.found.code + 2 * q.sub + q.size ≤ s.found.length = rw (← ee) l in
-          rw (not-false s.hit h, eq-eqb s.found.code q.code t, le-leb (q.element * element_size s.found.code + 2 * q.sub + q.size) s.found.length k, ee)
+      located l st est =
+          let k : q.element * element_size r.code + 2 * q.sub + q.size ≤ r.length = rw (ele, eel, ee, esu, esi) at l in
+          rw (h, eq-eqb r.code q.code t, le-leb (q.element * element_size r.code + 2 * q.sub + q.size) r.length k, est, eel, esu, ee)

@@ -2,34 +2,26 @@
 #![tactic(auto)]
 
 ghost use Rattle.std.specs.Prelude.{◌≡◌, take, drop};
-ghost use Rattle.processor_locate.specs.Locate.{locate_by, place_of};
+ghost use Rattle.processor_locate.specs.Locate.{locate_by};
 
 use processor_query::Query;
 use processor_table::Seen;
 
-// Where an access begins in the data memory.
-#[derive(Clone, Copy)]
-pub enum Located {
-    No,
-    At(usize),
-}
-
-// The file must exist with that type, and element × element size + 2 × last address + size must be within its length.
-pub fn locate(s: Seen, q: Query) -> Located
-    ensures { place_of result ≡ locate_by s q }
+// Where an access begins in the data memory: the file must exist with that type, and element × element size + 2 × last address + size must be
+// within its length.
+pub fn locate(s: Seen, q: Query) -> Option<usize>
+    ensures { result ≡ locate_by s q }
 {
-    let r = s.found;
-    if !s.hit {
-        return Located::No;
-    }
+    let r = s.found?;
     if r.code != q.code {
-        return Located::No;
+        return None;
     }
-    let offset = (q.element as usize) * file_type::simulated_size(r.code) + 2 * (q.sub as usize);
-    if (r.length as usize) < offset + (q.size as usize) {
-        return Located::No;
+    let offset = usize::from(q.element) * file_type::simulated_size(r.code)
+        + 2 * usize::from(q.sub);
+    if usize::from(r.length) < offset + usize::from(q.size) {
+        return None;
     }
-    Located::At((r.start as usize) + offset)
+    Some(usize::from(r.start) + offset)
 }
 
 // So many bytes from a place on, or those that are there.
@@ -39,6 +31,5 @@ pub fn part(s: &[u8], at: usize, n: usize) -> &[u8]
     if s.len() <= at {
         return &s[..0];
     }
-    let e = at + base::least(n, s.len() - at);
-    &s[at..e]
+    &s[at..at + n.min(s.len() - at)]
 }

@@ -1,5 +1,5 @@
 -- The masked write word by word: what is left of the work, on the memory as it is now, gives what the whole gives.
-use Prim.Native.Nat.{ℕ, zero, suc, ◌+◌, ◌-◌, ◌*◌, ◌/◌, ◌%◌, ◌≤◌, ◌<◌, min}
+use Prim.Native.Nat.{ℕ, zero, suc, ◌+◌, ◌-◌, ◌/◌, ◌%◌, ◌≤◌, ◌<◌, min}
 use mathlib.Core.Path.{◌≡◌, refl, sym, ap, ◌∙◌}
 use mathlib.Core.Bool.{Bool, true, false}
 use mathlib.Core.List.{List, [], ◌∷◌}
@@ -19,20 +19,16 @@ use Rattle.processor_spec.specs.Masked.{masked, masked_at}
 use Rattle.processor_spec.proofs.Masked.{wrote, wrote_none, wrote_odd, wrote_word}
 use Rattle.processor_masked_write.specs.Written.{written}
 
-pub word_of : (low high a b : ℕ) → a ≡ low → b ≡ high → a + 256 * b ≡ number (low ∷ high ∷ [])
-unfolding number
-word_of low high a b e f = omega arith
-
 pub begins : (m : List ℕ) (at mask : ℕ) (values : List ℕ) → written m (at + 0) mask (drop 0 values) ≡ written m at mask values
 begins m at mask values = rw add-zero
 
 module _ (m₀ m : List ℕ) (at i mask : ℕ) (values : List ℕ) where
-  pub goes : (n a b w : ℕ) → n ≡ length values → 2 ≤ n - i → at + length values ≤ length m
+  pub goes : (j a b w : ℕ) → j ≡ i + 2 → i + 2 ≤ length values → at + length values ≤ length m
       → a ≡ number (get_or m (at + i) 0 ∷ get_or m (at + i + 1) 0 ∷ []) → b ≡ number (get_or values i 0 ∷ get_or values (i + 1) 0 ∷ []) → w ≡ mix 0xFFFF mask a b → w < 65536
       → written m (at + i) mask (drop i values) ≡ written m₀ at mask values
-      → written (set (set m (at + i) (w % 256)) (at + i + 1) (w / 256)) (at + (i + 2)) mask (drop (i + 2) values) ≡ written m₀ at mask values
+      → written (set (set m (at + i) (w % 256)) (at + i + 1) (w / 256)) (at + j) mask (drop j values) ≡ written m₀ at mask values
   unfolding written wrote
-  goes n a b w en l h ea eb ew lw e =
+  goes j a b w ej l h ea eb ew lw e =
       let v : drop i values ≡ get_or values i 0 ∷ get_or values (i + 1) 0 ∷ drop (i + 2) values =
       let x : i < length values = omega arith in
       let y : suc i < length values = omega arith in
@@ -43,24 +39,22 @@ module _ (m₀ m : List ℕ) (at i mask : ℕ) (values : List ℕ) where
       let s : at + (i + 2) ≡ at + i + 2 = omega arith in
       let t : wrote m (at + i) mask (get_or values i 0 ∷ get_or values (i + 1) 0 ∷ drop (i + 2) values) ≡ wrote (set (set m (at + i) (w % 256)) (at + i + 1) (w / 256)) (at + i + 2) mask (drop (i + 2) values) =
       wrote_word m (at + i) mask (get_or values i 0) (get_or values (i + 1) 0) (drop (i + 2) values) k (set (set m (at + i) (w % 256)) (at + i + 1) (w / 256)) (rw (← b256, q)) in
-      rw s (sym t ∙ ap (wrote m (at + i) mask) (sym v) ∙ e)
+      rw (ej, s) (sym t ∙ ap (wrote m (at + i) mask) (sym v) ∙ e)
 
   -- an odd last byte, or nothing
-  pub ends_odd : (n w : ℕ) → n ≡ length values → n - i < 2 → i < n → at + length values ≤ length m → w ≡ mix 0xFF (mask % 256) (get_or m (at + i) 0) (get_or values i 0)
-      → written m (at + i) mask (drop i values) ≡ written m₀ at mask values → set m (at + i) w ≡ written m₀ at mask values
+  pub ends_odd : (w j : ℕ) → j ≡ i → i + 1 ≡ length values → at + length values ≤ length m → w ≡ mix 0xFF (mask % 256) (get_or m (at + i) 0) (get_or values i 0)
+      → written m (at + j) mask (drop j values) ≡ written m₀ at mask values → set m (at + i) w ≡ written m₀ at mask values
   unfolding written wrote
-  ends_odd n w en l h k ew e =
+  ends_odd w j ej l k ew e =
       let v : drop i values ≡ get_or values i 0 ∷ [] =
       let z : length values ≤ i + 1 = omega arith in
       drop_next values i (omega arith) ∙ ap (λ (s : List ℕ). get_or values i 0 ∷ s) (drop_of_length-le values z) in
       let o : wrote m (at + i) mask (get_or values i 0 ∷ []) ≡ set m (at + i) (mix 0xFF (mask % 256) (get_or m (at + i) 0) (get_or values i 0)) = wrote_odd m (at + i) mask (get_or values i 0) (omega arith) in
-      ap (set m (at + i)) ew ∙ sym o ∙ ap (wrote m (at + i) mask) (sym v) ∙ e
+      ap (set m (at + i)) ew ∙ sym o ∙ ap (wrote m (at + i) mask) (sym v) ∙ ap (λ (n : ℕ). wrote m (at + n) mask (drop n values)) (sym ej) ∙ e
 
-  pub ends_even : (n : ℕ) → n ≡ length values → n ≤ i → written m (at + i) mask (drop i values) ≡ written m₀ at mask values → m ≡ written m₀ at mask values
+  pub ends_even : length values ≤ i → written m (at + i) mask (drop i values) ≡ written m₀ at mask values → m ≡ written m₀ at mask values
   unfolding written wrote
-  ends_even n en h e =
-      let z : length values ≤ i = omega arith in
-      sym (wrote_none m (at + i) mask) ∙ ap (wrote m (at + i) mask) (sym (drop_of_length-le values z)) ∙ e
+  ends_even h e = sym (wrote_none m (at + i) mask) ∙ ap (wrote m (at + i) mask) (sym (drop_of_length-le values h)) ∙ e
 
 -- values for which there is no old byte are dropped
 masked_held : (mask : ℕ) (olds vs : List ℕ) (n : ℕ) → length olds ≤ n → masked mask olds (take n vs) ≡ masked mask olds vs

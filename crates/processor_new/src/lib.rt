@@ -11,11 +11,9 @@ use processor_spec::{Built, FileRecord};
 pub fn lay(table: &mut [FileRecord], files: &[[u32; 3]], count: usize)
     ensures { table.new ≡ laid_of files.now count table.old }
 {
-    let m = base::least(count, table.len());
-    let mut i: usize = 0;
-    while i < m {
+    let m = count.min(table.len());
+    for i in 0..m {
         table[i] = processor_build::record_of(files, i);
-        i += 1;
     }
 }
 
@@ -31,7 +29,9 @@ pub fn new(
 ) -> Built
     ensures { raised result table.new memory.new ≡ new_of (plan_of files.now text.now log.now count) table.old memory.old }
 {
-    let j = processor_build::judge(files, text, log, count, table.len(), memory.len());
-    lay(table, files, j.records);
-    processor_build::finish(j, text, count, memory)
+    let judged = processor_build::judge(files, text, log, count, table.len(), memory.len());
+    if let Ok(sums) = judged {
+        lay(table, files, sums.records);
+    }
+    processor_build::finish(judged, text, count, memory)
 }

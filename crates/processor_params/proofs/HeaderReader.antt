@@ -1,174 +1,135 @@
 -- The readers, return by return; and that what is taken part by part is the header.
+use Rattle.std.specs.Prelude.{Option, None, Some}
 use Prim.Native.Nat.{ℕ, suc, ◌+◌, ◌-◌, ◌≤◌, ◌<◌}
-use mathlib.Core.Path.{◌≡◌, refl, ap, ◌∙◌}
+use mathlib.Core.Path.{◌≡◌, refl, sym, ap, ◌∙◌}
 use mathlib.Core.Bool.{Bool, true, false}
 use mathlib.Core.List.{List, [], ◌∷◌}
-use mathlib.Core.Option.{Option, none, some}
 use native.Mathlib.Numerals.{add-one}
 use native.Mathlib.Omega.{arith}
-use borrow.Author.Tests.{leb-true, leb-false, eqb-true, eqb-false}
-use lib.Dec.{leb, eqb}
-use lib.ListN.{length, get_or, take, drop, length-drop}
+use borrow.Author.Tests.{leb-true, leb-false}
+use lib.Dec.{leb}
+use lib.ListN.{length, get_or, take, drop}
 use lib.Seq.{drop-cons}
 use Rattle.base.specs.Numbers.{number}
-use Rattle.parser_spec.specs.Parts.{then, give}
+use Rattle.parser_spec.specs.Parts.{then}
+use Rattle.parser_spec.proofs.Held.{no_some}
 use Rattle.processor_spec.specs.Params.{number_of, address, header}
 use Rattle.processor_spec.proofs.Reader.{byte_there, byte_none, address_none, address_there, address_long, address_cut}
-use Rattle.processor_params.specs.declared.TakenByte.{TakenByte}
-use Rattle.processor_params.specs.declared.TakenByte.TheVariants as byte
-use Rattle.processor_params.specs.declared.ByteStep.{ByteStep}
-use Rattle.processor_params.specs.declared.TakenWord.{TakenWord}
-use Rattle.processor_params.specs.declared.TakenWord.TheVariants as word
+use Rattle.processor_params.specs.declared.Params.{Params}
+use Rattle.processor_params.specs.Take.{byte_at, address_at, took, taken}
+use Rattle.processor_params.specs.Header.{header_of}
 use Rattle.processor_params.specs.declared.Header.{Header}
-use Rattle.processor_params.specs.declared.WordStep.{WordStep}
-use Rattle.processor_params.specs.Take.{place_of, byte_step, byte_at, word_step, address_at}
-use Rattle.processor_params.specs.Header.{no_header, header_by, header_of, gathered}
-
-place_is : (s : List ℕ) (k : ℕ) → k ≤ length s → place_of s (drop k s) ≡ k
-place_is s k h = let e : length (drop k s) ≡ length s - k = length-drop k s in omega arith
+use Rattle.processor_params.proofs.ParamsLeave.{number_leaves, address_leaves}
+use Rattle.processor_params.proofs.Taking.{place_is, Found, none_taken, some_taken}
 
 -- ---- `byte_at`
 module _ (s : List ℕ) (at : ℕ) where
-  pub no_byte : length s ≤ at → record { got = byte.Missing; next = at } ≡ byte_at s at
+  pub no_byte : length s ≤ at → None ≡ byte_at s at
   unfolding byte_at
   no_byte h = rw (byte_none s at h)
 
-  pub one_byte : at < length s → record { got = byte.Value (get_or s at 0); next = at + 1 } ≡ byte_at s at
+  pub one_byte : at < length s → Some (get_or s at 0, at + 1) ≡ byte_at s at
   unfolding byte_at
   one_byte h = rw (byte_there s at h, place_is s (at + 1) (omega arith))
 
+-- the byte that stands at a place
+pub record Here (s : List ℕ) (at b n : ℕ) : Type 0 where
+  pub inside : at < length s
+  pub value : b ≡ get_or s at 0
+  pub next : n ≡ at + 1
+
+module _ (s : List ℕ) (at : ℕ) where
+  pub byte_here : {b n : ℕ} → Some (b, n) ≡ byte_at s at → Here s at b n
+  byte_here {b} {n} e = go (leb (length s) at) refl
+    where
+      go : (t : Bool) → leb (length s) at ≡ t → Here s at b n
+      go true t = no_some (no_byte s at (leb-true (length s) at t) ∙ sym e)
+      go false t =
+          let h : at < length s = leb-false (length s) at t in
+          let q : ◌≡◌ {A = Option (ℕ × ℕ)} (Some (b, n)) (Some (get_or s at 0, at + 1)) = e ∙ sym (one_byte s at h) in
+          let z : ◌≡◌ {A = ℕ × ℕ} (b, n) (get_or s at 0, at + 1) = cc in
+          record { inside = h; value = ap (λ (x : ℕ × ℕ). x.0) z; next = ap (λ (x : ℕ × ℕ). x.1) z }
+
+  byte_missing : None ≡ byte_at s at → length s ≤ at
+  byte_missing e = go (leb (length s) at) refl
+    where
+      go : (t : Bool) → leb (length s) at ≡ t → length s ≤ at
+      go true t = leb-true (length s) at t
+      go false t = no_some (e ∙ sym (one_byte s at (leb-false (length s) at t)))
+
 -- ---- `address_at`
-module _ (s : List ℕ) (at : ℕ) where
-  pub no_address_lem : length s ≤ at → record { got = word.Missing; next = at } ≡ address_at s at
+module _ (s : List ℕ) (at : ℕ) (o : Option (ℕ × ℕ)) (e : o ≡ byte_at s at) where
+  pub no_address_lem : (g : Option (ℕ × ℕ)) → o ≡ None → g ≡ None → g ≡ address_at s at
   unfolding address_at
-  no_address_lem h = rw (address_none s at h)
+  no_address_lem g m f = rw (address_none s at (byte_missing s at (sym m ∙ e))) f
 
-  pub short_address : (w : ℕ) → at < length s → (get_or s at 0 ≡ 255 → ⊥) → w ≡ get_or s at 0 → record { got = word.Value w; next = at + 1 } ≡ address_at s at
-  unfolding address_at
-  short_address w h n is = rw (address_there s at h n, place_is s (at + 1) (omega arith), is)
+  module _ (b n : ℕ) (m : o ≡ Some (b, n)) where
+    here : Here s at b n
+    here = byte_here s at (sym m ∙ e)
 
-  pub cut_address : at < length s → get_or s at 0 ≡ 255 → length s - at < 3 → record { got = word.Missing; next = at } ≡ address_at s at
-  unfolding address_at
-  cut_address h e l = rw (address_cut s at h e (omega arith))
+    pub next_within : n ≤ length s
+    next_within = omega (arith, here.inside, here.next)
 
-  two_bytes : at + 2 ≤ length s → take 2 (drop at s) ≡ get_or s at 0 ∷ get_or s (at + 1) 0 ∷ []
-  two_bytes h =
-      let a : at < length s = omega arith in
-      let b : suc at < length s = omega arith in
-      rw (add-one, drop-cons s at 0 a, drop-cons s (suc at) 0 b)
+    pub short_address : (w : ℕ) → (b ≡ 255 → ⊥) → w ≡ b → Some (w, n) ≡ address_at s at
+    unfolding address_at
+    short_address w ne is =
+        rw (address_there s at here.inside (λ f. ne (here.value ∙ f)), place_is s (at + 1) (omega (arith, here.inside)), is, here.value, here.next)
 
-module _ (s : List ℕ) (at : ℕ) where
-  pub long_address : (w : ℕ) → at < length s → get_or s at 0 ≡ 255 → 3 ≤ length s - at → w ≡ number (take 2 (drop (at + 1) s)) → record { got = word.Value w; next = at + 3 } ≡ address_at s at
-  unfolding address_at
-  long_address w h e l is =
-      let p : at + 1 + 1 ≡ at + 2 = omega arith in
-      let t : take 2 (drop (at + 1) s) ≡ get_or s (at + 1) 0 ∷ get_or s (at + 2) 0 ∷ [] = rw (← p) (two_bytes s (at + 1) (omega arith)) in
-      rw (address_long s at (omega arith) e, place_is s (at + 3) (omega arith), is, t)
+    pub cut_address : b ≡ 255 → length s - n < 2 → None ≡ address_at s at
+    unfolding address_at
+    cut_address f l = rw (address_cut s at here.inside (sym here.value ∙ f) (omega (arith, here.next, here.inside)))
+
+    pub long_address : (w : ℕ) → b ≡ 255 → 2 ≤ length s - n → w ≡ number (take 2 (drop n s)) → Some (w, n + 2) ≡ address_at s at
+    unfolding address_at
+    long_address w f l is =
+        let h : at + 1 + 2 ≤ length s = omega (arith, here.next, here.inside) in
+        let t : take 2 (drop (at + 1) s) ≡ get_or s (at + 1) 0 ∷ get_or s (at + 1 + 1) 0 ∷ [] = two_bytes (at + 1) h in
+        let p : at + 1 + 1 ≡ at + 2 = omega arith in
+        let q : at + 1 + 2 ≡ at + 3 = omega arith in
+        rw (address_long s at (omega arith) (sym here.value ∙ f), place_is s (at + 3) (omega arith), is, here.next, t, p, q)
+      where
+        two_bytes : (k : ℕ) → k + 2 ≤ length s → take 2 (drop k s) ≡ get_or s k 0 ∷ get_or s (k + 1) 0 ∷ []
+        two_bytes k h =
+            let a : k < length s = omega arith in
+            let b : suc k < length s = omega arith in
+            rw (add-one, drop-cons s k 0 a, drop-cons s (suc k) 0 b)
 
 -- ---- `read_header`
+module _ (s : List ℕ) (p₁ : Params) (r₁ : Option ℕ) (e₁ : took r₁ p₁ ≡ taken 0 (byte_at s 0)) where
+  pub no_size : (g : Option Header) → r₁ ≡ None → g ≡ None → g ≡ header_of s
+  unfolding header_of header then byte_at
+  no_size g m f = rw (none_taken s 0 p₁ r₁ (number_of 1 s) e₁ m) f
 
--- a part that is there leaves what stands from a place on
-data Found (s : List ℕ) : Option (ℕ × List ℕ) → Type 0 where
-  missing : Found s none
-  upto : (n k : ℕ) → k ≤ length s → Found s (some (n, drop k s))
+  module _ (size : ℕ) (m₁ : r₁ ≡ Some size) (p₂ : Params) (r₂ : Option ℕ) (e₂ : took r₂ p₂ ≡ taken p₁.pos (address_at s p₁.pos)) where
+    first : Found s (number_of 1 s) size p₁.pos
+    unfolding byte_at
+    first = some_taken s {at = 0} (omega arith) (number_leaves 1 s) e₁ m₁
 
-module _ (s : List ℕ) (at : ℕ) where
-  byte_found : Found s (number_of 1 (drop at s))
-  byte_found = by_end (leb (length s) at) refl
-    where
-      by_end : (b : Bool) → leb (length s) at ≡ b → Found s (number_of 1 (drop at s))
-      by_end true e = rw (byte_none s at (leb-true (length s) at e)) missing
-      by_end false e = let h : at < length s = leb-false (length s) at e in rw (byte_there s at h) (upto (get_or s at 0) (at + 1) (omega arith))
+    pub no_file : (g : Option Header) → r₂ ≡ None → g ≡ None → g ≡ header_of s
+    unfolding header_of header then address_at
+    no_file g m f = rw (first.is, none_taken s p₁.pos p₂ r₂ (address (drop p₁.pos s)) e₂ m) f
 
-  address_found : Found s (address (drop at s))
-  address_found = by_end (leb (length s) at) refl
-    where
-      by_word : at < length s → get_or s at 0 ≡ 255 → (b : Bool) → leb (at + 3) (length s) ≡ b → Found s (address (drop at s))
-      by_word h f true e = let l : at + 3 ≤ length s = leb-true (at + 3) (length s) e in rw (address_long s at l f) (upto (number (get_or s (at + 1) 0 ∷ get_or s (at + 2) 0 ∷ [])) (at + 3) l)
-      by_word h f false e = rw (address_cut s at h f (leb-false (at + 3) (length s) e)) missing
+    module _ (file : ℕ) (m₂ : r₂ ≡ Some file) (p₃ : Params) (r₃ : Option ℕ) (e₃ : took r₃ p₃ ≡ taken p₂.pos (byte_at s p₂.pos)) where
+      second : Found s (address (drop p₁.pos s)) file p₂.pos
+      unfolding address_at
+      second = some_taken s first.within (address_leaves (drop p₁.pos s)) e₂ m₂
 
-      by_first : at < length s → (b : Bool) → eqb (get_or s at 0) 255 ≡ b → Found s (address (drop at s))
-      by_first h true e = by_word h (eqb-true (get_or s at 0) 255 e) (leb (at + 3) (length s)) refl
-      by_first h false e = rw (address_there s at h (eqb-false (get_or s at 0) 255 e)) (upto (get_or s at 0) (at + 1) (omega arith))
+      pub no_code : (g : Option Header) → r₃ ≡ None → g ≡ None → g ≡ header_of s
+      unfolding header_of header then byte_at
+      no_code g m f = rw (first.is, second.is, none_taken s p₂.pos p₃ r₃ (number_of 1 (drop p₂.pos s)) e₃ m) f
 
-      by_end : (b : Bool) → leb (length s) at ≡ b → Found s (address (drop at s))
-      by_end true e = rw (address_none s at (leb-true (length s) at e)) missing
-      by_end false e = by_first (leb-false (length s) at e) (eqb (get_or s at 0) 255) refl
+      module _ (code : ℕ) (m₃ : r₃ ≡ Some code) (p₄ : Params) (r₄ : Option ℕ) (e₄ : took r₄ p₄ ≡ taken p₃.pos (address_at s p₃.pos)) where
+        third : Found s (number_of 1 (drop p₂.pos s)) code p₃.pos
+        unfolding byte_at
+        third = some_taken s second.within (number_leaves 1 (drop p₂.pos s)) e₃ m₃
 
-module _ (s : List ℕ) where
-  element_taken : (size file code at : ℕ) {o : Option (ℕ × List ℕ)} → Found s o
-      → gathered (byte.Value size) (word.Value file) (byte.Value code) (word_step s at o).got (word_step s at o).next
-      ≡ header_by s (then o (λ element. give (record { size = size; file = file; code = code; element = element })))
-  unfolding gathered then
-  element_taken size file code at missing = refl
-  element_taken size file code at (upto n k l) = refl
+        pub no_element : (g : Option Header) → r₄ ≡ None → g ≡ None → g ≡ header_of s
+        unfolding header_of header then address_at
+        no_element g m f = rw (first.is, second.is, third.is, none_taken s p₃.pos p₄ r₄ (address (drop p₃.pos s)) e₄ m) f
 
-  code_taken : (size file at : ℕ) {o : Option (ℕ × List ℕ)} → Found s o
-      → gathered (byte.Value size) (word.Value file) (byte_step s at o).got (address_at s (byte_step s at o).next).got (address_at s (byte_step s at o).next).next
-      ≡ header_by s (then o (λ code p. then (address p) (λ element. give (record { size = size; file = file; code = code; element = element }))))
-  unfolding gathered then address_at
-  code_taken size file at missing = refl
-  code_taken size file at (upto n k l) = rw (place_is s k l) (element_taken size file n k (address_found s k))
-
-  file_taken : (size at : ℕ) {o : Option (ℕ × List ℕ)} → Found s o
-      → gathered (byte.Value size) (word_step s at o).got (byte_at s (word_step s at o).next).got (address_at s (byte_at s (word_step s at o).next).next).got
-      (address_at s (byte_at s (word_step s at o).next).next).next
-      ≡ header_by s (then o (λ file p. then (number_of 1 p) (λ code q. then (address q) (λ element. give (record { size = size; file = file; code = code; element = element })))))
-  unfolding gathered then byte_at
-  file_taken size at missing = refl
-  file_taken size at (upto n k l) = rw (place_is s k l) (code_taken size n k (byte_found s k))
-
-  -- what is taken in turn, each part where the one before left the place
-  abbrev from_element : TakenByte → TakenWord → TakenByte → WordStep → Header
-  from_element size file code w = gathered size file code w.got w.next
-
-  abbrev from_code : TakenByte → TakenWord → ByteStep → Header
-  from_code size file b = from_element size file b.got (address_at s b.next)
-
-  abbrev from_file : TakenByte → WordStep → Header
-  from_file size w = from_code size w.got (byte_at s w.next)
-
-  abbrev from_size : ByteStep → Header
-  from_size b = from_file b.got (address_at s b.next)
-
-  size_taken : (at : ℕ) {o : Option (ℕ × List ℕ)} → Found s o
-      → from_size (byte_step s at o)
-      ≡ header_by s (then o (λ size r. then (address r) (λ file p. then (number_of 1 p) (λ code q. then (address q) (λ element. give (record { size = size; file = file; code = code; element = element }))))))
-  unfolding gathered then address_at
-  size_taken at missing = refl
-  size_taken at (upto n k l) = rw (place_is s k l) (file_taken n k (address_found s k))
-
-  header_right : from_size (byte_at s 0) ≡ header_of s
-  unfolding header_of header byte_at
-  header_right = size_taken 0 (byte_found s 0)
-
--- what four takes gave, put together
-module _ (s : List ℕ) (size : TakenByte) (file : TakenWord) (code : TakenByte) (element : TakenWord) (n₁ n₂ n₃ n₄ : ℕ) where
-  pub takes_right : record { got = size; next = n₁ } ≡ byte_at s 0 → record { got = file; next = n₂ } ≡ address_at s n₁ → record { got = code; next = n₃ } ≡ byte_at s n₂
-      → record { got = element; next = n₄ } ≡ address_at s n₃ → gathered size file code element n₄ ≡ header_of s
-  takes_right e₁ e₂ e₃ e₄ = ap (from_element s size file code) e₄ ∙ ap (from_code s size file) e₃ ∙ ap (from_file s size) e₂ ∙ ap (from_size s) e₁ ∙ header_right s
-
--- ---- `header_of`
-module _ (g : Header) (is : g ≡ no_header) (size : TakenByte) (file : TakenWord) (code : TakenByte) (element : TakenWord) (next : ℕ) where
-  pub no_size : size ≡ byte.Missing → g ≡ gathered size file code element next
-  unfolding gathered
-  no_size e = rw (e, is)
-
-  module _ (a : ℕ) (ea : size ≡ byte.Value a) where
-    pub no_file : file ≡ word.Missing → g ≡ gathered size file code element next
-    unfolding gathered
-    no_file e = rw (ea, e, is)
-
-    module _ (b : ℕ) (eb : file ≡ word.Value b) where
-      pub no_code : code ≡ byte.Missing → g ≡ gathered size file code element next
-      unfolding gathered
-      no_code e = rw (ea, eb, e, is)
-
-      pub no_element : (c : ℕ) → code ≡ byte.Value c → element ≡ word.Missing → g ≡ gathered size file code element next
-      unfolding gathered
-      no_element c ec e = rw (ea, eb, ec, e, is)
-
-pub all_there : (size : TakenByte) (file : TakenWord) (code : TakenByte) (element : TakenWord) (next a b c d : ℕ) → size ≡ byte.Value a → file ≡ word.Value b → code ≡ byte.Value c → element ≡ word.Value d
-    → record { whole = true; size = a; file = b; code = c; element = d; next = next } ≡ gathered size file code element next
-unfolding gathered
-all_there size file code element next a b c d ea eb ec ed = rw (ea, eb, ec, ed)
+        pub all_there : (element : ℕ) → r₄ ≡ Some element
+            → ◌≡◌ {A = Option Header} (Some (record { size = size; file = file; code = code; element = element; next = p₄.pos })) (header_of s)
+        unfolding header_of header then address_at
+        all_there element m =
+            let fourth : Found s (address (drop p₃.pos s)) element p₄.pos = some_taken s third.within (address_leaves (drop p₃.pos s)) e₄ m in
+            rw (first.is, second.is, third.is, fourth.is, place_is s p₄.pos fourth.within)

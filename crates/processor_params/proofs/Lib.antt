@@ -1,1 +1,3 @@
+pub mod ParamsLeave
+pub mod Taking
 pub mod HeaderReader

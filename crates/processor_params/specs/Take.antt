@@ -1,39 +1,35 @@
 -- What stands at a place in the parameters, and the next place. "taking a byte or an address moves its position in place": a failed take
 -- leaves the place.
-use Rattle.std.specs.Prelude.{ℕ, ◌-◌, List, length, drop}
-use Rattle.std.proofs.Math.Option.{Option, none, some}
+use Rattle.std.specs.Prelude.{ℕ, ◌-◌, List, length, drop, Option, None, Some}
 use Rattle.processor_spec.specs.Params.{number_of, address}
 use Rattle.processor_params.specs.declared.Params.{Params}
-use Rattle.processor_params.specs.declared.TakenByte.{TakenByte}
-use Rattle.processor_params.specs.declared.TakenByte.TheVariants as byte
-use Rattle.processor_params.specs.declared.ByteStep.{ByteStep}
-use Rattle.processor_params.specs.declared.TakenWord.{TakenWord}
-use Rattle.processor_params.specs.declared.TakenWord.TheVariants as word
-use Rattle.processor_params.specs.declared.WordStep.{WordStep}
 
 -- the place where so much is left of the bytes
 abbrev pub place_of : List ℕ → List ℕ → ℕ
 place_of s rest = length s - length rest
 
-abbrev pub byte_step : List ℕ → ℕ → Option (ℕ × List ℕ) → ByteStep
-byte_step s at none = record { got = byte.Missing; next = at }
-byte_step s at (some x) = record { got = byte.Value x.0; next = place_of s x.1 }
+-- what was read of the bytes, and the place behind it
+abbrev pub placed : List ℕ → Option (ℕ × List ℕ) → Option (ℕ × ℕ)
+placed s None = None
+placed s (Some x) = Some (x.0, place_of s x.1)
 
 -- a byte
-unfoldable pub byte_at : List ℕ → ℕ → ByteStep
-byte_at s at = byte_step s at (number_of 1 (drop at s))
-
-abbrev pub word_step : List ℕ → ℕ → Option (ℕ × List ℕ) → WordStep
-word_step s at none = record { got = word.Missing; next = at }
-word_step s at (some x) = record { got = word.Value x.0; next = place_of s x.1 }
+unfoldable pub byte_at : List ℕ → ℕ → Option (ℕ × ℕ)
+byte_at s at = placed s (number_of 1 (drop at s))
 
 -- an address
-unfoldable pub address_at : List ℕ → ℕ → WordStep
-address_at s at = word_step s at (address (drop at s))
+unfoldable pub address_at : List ℕ → ℕ → Option (ℕ × ℕ)
+address_at s at = placed s (address (drop at s))
 
--- what a take answered, and where it left the reader
-abbrev pub took_byte : TakenByte → Params → ByteStep
-took_byte r p = record { got = r; next = p.pos }
+-- what a take answers, and where it leaves the reader
+pub record Taken : Type 0 where
+  pub got : Option ℕ
+  pub next : ℕ
 
-abbrev pub took_word : TakenWord → Params → WordStep
-took_word r p = record { got = r; next = p.pos }
+abbrev pub took : Option ℕ → Params → Taken
+took r p = record { got = r; next = p.pos }
+
+-- the same of what stands at its place: where nothing is whole, it stays
+abbrev pub taken : ℕ → Option (ℕ × ℕ) → Taken
+taken at None = record { got = None; next = at }
+taken at (Some x) = record { got = Some x.0; next = x.1 }

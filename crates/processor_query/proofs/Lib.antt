@@ -2,5 +2,4 @@ pub mod Family
 pub mod ParamsLeave
 pub mod WordSteps
 pub mod FunctionQuery
-pub mod FunctionCodes
 pub mod QueryOf

@@ -1,6 +1,8 @@
 -- What a command says, by its frame.
+use Rattle.std.specs.Prelude.{Option, None, Some, unwrap_or}
 use Prim.Native.Nat.{ℕ, ◌+◌, ◌-◌, ◌≤◌, ◌<◌}
-use mathlib.Core.Path.{◌≡◌, sym, ap, ◌∙◌}
+use mathlib.Core.Path.{◌≡◌, refl, sym, ap, ◌∙◌}
+use mathlib.Core.Logic.{◌⊎◌, inl, inr}
 use mathlib.Core.List.{List, [], ◌∷◌}
 use native.Mathlib.Nat.{add-zero}
 use native.Mathlib.Omega.{arith}
@@ -13,7 +15,11 @@ use Rattle.processor_spec.specs.Frame.{body, cmd, function}
 use Rattle.processor_spec.specs.Params.{header}
 use Rattle.processor_query.specs.declared.Query.{Query}
 use Rattle.processor_query.specs.declared.Wants.TheVariants as wants
-use Rattle.processor_query.specs.Query.{plainly, function_query, body_query, query_of}
+use Rattle.processor_query.specs.Query.{plainly, wanted, function_query, body_query, query_of}
+
+chosen : (o : Option Query) → unwrap_or o (plainly wants.Bad) ≡ wanted o
+chosen None = refl
+chosen (Some q) = refl
 
 module _ (slc : Slc) (c : List ℕ) (n : ℕ) (q : Query) (en : n ≡ get_or c 0 0) where
   at_body : function c ≡ drop (n + 4) c
@@ -37,22 +43,20 @@ module _ (slc : Slc) (c : List ℕ) (n : ℕ) (q : Query) (en : n ≡ get_or c 0
         let k : n + 4 + 1 ≡ n + 5 = omega arith in
         at_body ∙ drop_next c (n + 4) (omega arith) ∙ ap (λ (j : ℕ). get_or c (n + 4) 0 ∷ drop j c) k
 
-    pub of_function : (s : List ℕ) → get_or c n 0 ≡ 0x0F → s ≡ take (length c - (n + 5)) (drop (n + 5) c)
-        → q ≡ function_query (take slc.type_len slc.type_text) (get_or c (n + 4) 0) s (header s) → q ≡ query_of slc c
+    pub of_function : (s : List ℕ) (o : Option Query) (d : Query) → get_or c n 0 ≡ 0x0F → s ≡ take (length c - (n + 5)) (drop (n + 5) c)
+        → wanted o ≡ function_query (take slc.type_len slc.type_text) (get_or c (n + 4) 0) s (header s) → d ≡ plainly wants.Bad → q ≡ unwrap_or o d → q ≡ query_of slc c
     unfolding query_of body_query
-    of_function s f es e =
+    of_function s o d f es g ed eq =
+        let e : q ≡ function_query (take slc.type_len slc.type_text) (get_or c (n + 4) 0) s (header s) = eq ∙ ap (unwrap_or o) ed ∙ chosen o ∙ g in
         let w : length (drop (n + 5) c) ≤ length c - (n + 5) = simp length-drop (omega arith) in
         let p : s ≡ drop (n + 5) c = es ∙ take_all (length c - (n + 5)) (drop (n + 5) c) w in
         rw (parts, the_cmd, f) (e ∙ ap (λ (x : List ℕ). function_query (take slc.type_len slc.type_text) (get_or c (n + 4) 0) x (header x)) p)
 
     module _ (nf : get_or c n 0 ≡ 0x0F → ⊥) where
-      pub of_no_cmd : (get_or c n 0 ≡ 0x06 → ⊥) → q ≡ plainly wants.Illegal → q ≡ query_of slc c
+      pub of_neither : ((get_or c n 0 ≡ 0x06) × (get_or c (n + 4) 0 ≡ 0x03 → ⊥)) ⊎ (get_or c n 0 ≡ 0x06 → ⊥) → q ≡ plainly wants.Illegal → q ≡ query_of slc c
       unfolding query_of body_query
-      of_no_cmd ne e = rw (parts, the_cmd, ne_eqb (get_or c n 0) 0x0F nf, ne_eqb (get_or c n 0) 0x06 ne) e
-
-      pub of_other_status : get_or c n 0 ≡ 0x06 → (get_or c (n + 4) 0 ≡ 0x03 → ⊥) → q ≡ plainly wants.Illegal → q ≡ query_of slc c
-      unfolding query_of body_query
-      of_other_status f ne e = rw (parts, the_cmd, ne_eqb (get_or c n 0) 0x0F nf, eq-eqb (get_or c n 0) 0x06 f, ne_eqb (get_or c (n + 4) 0) 0x03 ne) e
+      of_neither (inl x) e = rw (parts, the_cmd, ne_eqb (get_or c n 0) 0x0F nf, eq-eqb (get_or c n 0) 0x06 x.0, ne_eqb (get_or c (n + 4) 0) 0x03 x.1) e
+      of_neither (inr ne) e = rw (parts, the_cmd, ne_eqb (get_or c n 0) 0x0F nf, ne_eqb (get_or c n 0) 0x06 ne) e
 
       pub of_diagnostic : get_or c n 0 ≡ 0x06 → get_or c (n + 4) 0 ≡ 0x03 → q ≡ plainly wants.Diagnostic → q ≡ query_of slc c
       unfolding query_of body_query

@@ -1,7 +1,6 @@
 -- What a command says, by the command and the type text alone (document 01, "What the processor does"): the questions of `ask` in processor_spec that
 -- don't concern the file table, as plain data.
-use Rattle.std.specs.Prelude.{ℕ, true, false, ◌&&◌, cond, List, [], ◌∷◌, eqb, take}
-use Rattle.std.proofs.Math.Option.{Option, none, some}
+use Rattle.std.specs.Prelude.{ℕ, ◌&&◌, cond, List, [], ◌∷◌, eqb, take, Option, None, Some}
 use Rattle.parser_spec.specs.Parts.{Part, ◌>>=◌, give}
 use Rattle.directory_sys0.specs.declared.Sys0Info.{Sys0Info}
 use Rattle.directory_sys0.specs.Families.{sys0}
@@ -14,9 +13,6 @@ use Rattle.processor_query.specs.declared.Layout.{Layout}
 use Rattle.processor_query.specs.declared.Query.{Query}
 use Rattle.processor_query.specs.declared.Wants.{Wants}
 use Rattle.processor_query.specs.declared.Wants.TheVariants as wants
-
-abbrev pub no_layout : Layout
-no_layout = record { first = 0; row = 0; code = 0; size_element = 0; constant = 0 }
 
 -- where the directory lies
 abbrev pub layout_of : Sys0Info → Layout
@@ -32,28 +28,35 @@ layout_of sys = record {
 abbrev pub header_in : params.Header → Header
 header_in h = record { size = h.size; file = h.file; code = h.code; element = h.element }
 
+-- the same of what is wanted, where that is the directory
+abbrev pub directory_wanted : Wants → Option Layout
+directory_wanted wants.Illegal = None
+directory_wanted wants.Bad = None
+directory_wanted wants.Diagnostic = None
+directory_wanted wants.Entry = None
+directory_wanted (wants.Directory l) = Some l
+directory_wanted wants.Read = None
+directory_wanted wants.Write = None
+
 -- nothing is told of a file
 abbrev pub plainly : Wants → Query
-plainly w = record { number = 0; directory = false; wants = w; size = 0; code = 0; element = 0; sub = 0; mask = 0; place = 0; layout = no_layout }
+plainly w = record { number = 0; wants = w; size = 0; code = 0; element = 0; sub = 0; mask = 0; place = 0 }
 
 abbrev pub directory_query : Sys0Info → Header → Query
 directory_query sys h = record {
   number = 0;
-  directory = true;
-  wants = wants.Directory;
+  wants = wants.Directory (layout_of sys);
   size = h.size;
   code = h.code;
   element = h.element;
   sub = 0;
   mask = 0;
   place = 0;
-  layout = layout_of sys;
 }
 
 abbrev pub access_query : Wants → Header → ℕ → ℕ → ℕ → Query
 access_query w h sub mask place = record {
   number = h.file;
-  directory = false;
   wants = w;
   size = h.size;
   code = h.code;
@@ -61,12 +64,11 @@ access_query w h sub mask place = record {
   sub = sub;
   mask = mask;
   place = place;
-  layout = no_layout;
 }
 
 -- the bytes that are left
 abbrev pub rest : Part (List ℕ)
-rest s = some (s, s)
+rest s = Some (s, s)
 
 -- "Else the last address .., the mask (0xAB) and, for 0xAA and 0xAB, size value bytes must be there"; `s` are all parameters
 unfoldable pub file_query : List ℕ → ℕ → Header → Part Query
@@ -78,13 +80,22 @@ file_query s fn h = do
   give (access_query (cond (writes fn) wants.Write wants.Read) h sub mask (place_of s behind))
 
 unfoldable pub or_bad : Option (Query × List ℕ) → Query
-or_bad none = plainly wants.Bad
-or_bad (some x) = x.0
+or_bad None = plainly wants.Bad
+or_bad (Some x) = x.0
+
+-- the query alone, and what none stands for
+abbrev pub said : Option (Query × List ℕ) → Option Query
+said None = None
+said (Some x) = Some x.0
+
+abbrev pub wanted : Option Query → Query
+wanted None = plainly wants.Bad
+wanted (Some q) = q
 
 -- the questions of CMD 0x0F, in their order; `x` are the header and the bytes behind it
 unfoldable pub function_query : List ℕ → ℕ → List ℕ → Option (Header × List ℕ) → Query
-function_query text fn s none = plainly wants.Bad
-function_query text fn s (some x) =
+function_query text fn s None = plainly wants.Bad
+function_query text fn s (Some x) =
     cond (known_function fn)
     (cond (asks_directory fn x.0.file) (directory_query (sys0 text) x.0)
     (cond (asks_datalog fn x.0.code) (plainly wants.Entry)

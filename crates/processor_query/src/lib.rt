@@ -6,24 +6,11 @@ mod functions;
 ghost use Rattle.std.specs.Prelude.{◌≡◌, ◌≤◌, length, take, drop};
 ghost use Rattle.processor_spec.specs.Params.{last_address, mask_word, header as params_header};
 ghost use Rattle.directory_sys0.specs.Families.{sys0 as families_sys0};
-ghost use Rattle.processor_params.specs.Take.{word_step};
-ghost use Rattle.processor_query.specs.Query.{header_in, plainly, or_bad, layout_of, directory_query, access_query, file_query, function_query, query_of};
+ghost use Rattle.processor_params.specs.Take.{placed};
+ghost use Rattle.processor_query.specs.Query.{header_in, plainly, said, wanted, layout_of, directory_wanted, directory_query, access_query, file_query, function_query, query_of};
 
-use processor_params::{Header, TakenWord, WordStep};
+use processor_params::Header;
 use processor_spec::Slc;
-
-// What is wanted: nothing that is legal (status 10), nothing that can be had (status F0, extended 06), the diagnostic status, the oldest datalog
-// entry, the directory, or bytes of a file.
-#[derive(Clone, Copy)]
-pub enum Wants {
-    Illegal,
-    Bad,
-    Diagnostic,
-    Entry,
-    Directory,
-    Read,
-    Write,
-}
 
 // Where the directory lies, by the processor's family.
 #[derive(Clone, Copy)]
@@ -39,11 +26,23 @@ pub struct Layout {
     pub constant: u16,
 }
 
+// What is wanted: nothing that is legal (status 10), nothing that can be had (status F0, extended 06), the diagnostic status, the oldest datalog
+// entry, the directory, or bytes of a file.
+#[derive(Clone, Copy)]
+pub enum Wants {
+    Illegal,
+    Bad,
+    Diagnostic,
+    Entry,
+    Directory(Layout),
+    Read,
+    Write,
+}
+
 #[derive(Clone, Copy)]
 pub struct Query {
     // the file that is asked for, 0 where none is
     pub number: u16,
-    pub directory: bool,
     pub wants: Wants,
     pub size: u8,
     pub code: u8,
@@ -53,24 +52,26 @@ pub struct Query {
     pub mask: u16,
     // where the value bytes begin behind the function byte
     pub place: usize,
-    // only where the directory is wanted
-    pub layout: Layout,
+}
+
+impl Query {
+    // Where the directory lies, where that is wanted.
+    pub fn directory(self) -> Option<Layout>
+        ensures { result ≡ directory_wanted self.wants }
+    {
+        match self.wants {
+            Wants::Directory(layout) => Some(layout),
+            _ => None,
+        }
+    }
 }
 
 // A query that tells of no file.
 fn plain(wants: Wants) -> Query
     ensures { result ≡ plainly wants }
 {
-    let layout = Layout {
-        first: 0,
-        row: 0,
-        code: 0,
-        size_element: 0,
-        constant: 0,
-    };
     Query {
         number: 0,
-        directory: false,
         wants,
         size: 0,
         code: 0,
@@ -78,60 +79,39 @@ fn plain(wants: Wants) -> Query
         sub: 0,
         mask: 0,
         place: 0,
-        layout,
     }
 }
 
 // The last address and the place behind it; function A1 has none and takes 0.
-fn last_address(function: u8, s: &[u8], at: usize) -> WordStep
+fn last_address(function: u8, s: &[u8], at: usize) -> Option<(u16, usize)>
     requires { at ≤ length s.now }
-    ensures { result ≡ word_step s.now at (last_address function (drop at s.now)) }
+    ensures { result ≡ placed s.now (last_address function (drop at s.now)) }
 {
     if function == 0xA1 {
-        return WordStep {
-            got: TakenWord::Value(0),
-            next: at,
-        };
+        return Some((0, at));
     }
     processor_params::address_at(s, at)
 }
 
 // The mask and the place behind it; only function AB has one, the others take FFFF.
-fn mask_word(function: u8, s: &[u8], at: usize) -> WordStep
+fn mask_word(function: u8, s: &[u8], at: usize) -> Option<(u16, usize)>
     requires { at ≤ length s.now }
-    ensures { result ≡ word_step s.now at (mask_word function (drop at s.now)) }
+    ensures { result ≡ placed s.now (mask_word function (drop at s.now)) }
 {
     if function != 0xAB {
-        return WordStep {
-            got: TakenWord::Value(0xFFFF),
-            next: at,
-        };
+        return Some((0xFFFF, at));
     }
     if s.len() - at < 2 {
-        return WordStep {
-            got: TakenWord::Missing,
-            next: at,
-        };
+        return None;
     }
-    WordStep {
-        got: TakenWord::Value(base::word_at(s, at)),
-        next: at + 2,
-    }
+    Some((base::word_at(s, at), at + 2))
 }
 
 fn access(wants: Wants, h: Header, sub: u16, mask: u16, place: usize) -> Query
     ensures { result ≡ access_query wants (header_in h) sub mask place }
 {
-    let layout = Layout {
-        first: 0,
-        row: 0,
-        code: 0,
-        size_element: 0,
-        constant: 0,
-    };
     Query {
         number: h.file,
-        directory: false,
         wants,
         size: h.size,
         code: h.code,
@@ -139,40 +119,30 @@ fn access(wants: Wants, h: Header, sub: u16, mask: u16, place: usize) -> Query
         sub,
         mask,
         place,
-        layout,
     }
 }
 
 // What is wanted of a file: the last address, the mask and the value bytes must be there.
-fn file_query(function: u8, h: Header, s: &[u8]) -> Query
+fn file_query(function: u8, h: Header, s: &[u8]) -> Option<Query>
     requires { h.next ≤ length s.now }
-    ensures { result ≡ or_bad (file_query s.now function (header_in h) (drop h.next s.now)) }
+    ensures { result ≡ said (file_query s.now function (header_in h) (drop h.next s.now)) }
 {
-    let a = last_address(function, s, h.next);
-    let got = a.got;
-    let TakenWord::Value(sub) = got else {
-        return plain(Wants::Bad);
-    };
-    let m = mask_word(function, s, a.next);
-    let masked = m.got;
-    let TakenWord::Value(mask) = masked else {
-        return plain(Wants::Bad);
-    };
+    let (sub, at) = last_address(function, s, h.next)?;
+    let (mask, place) = mask_word(function, s, at)?;
     if !functions::writes(function) {
-        return access(Wants::Read, h, sub, mask, m.next);
+        return Some(access(Wants::Read, h, sub, mask, place));
     }
-    if s.len() - m.next < (h.size as usize) {
-        return plain(Wants::Bad);
+    if s.len() - place < usize::from(h.size) {
+        return None;
     }
-    access(Wants::Write, h, sub, mask, m.next)
+    Some(access(Wants::Write, h, sub, mask, place))
 }
 
 // The layout for a type text, of which the first bytes count.
 fn family_layout(text: [u8; 11], len: usize) -> Layout
     ensures { result ≡ layout_of (families_sys0 (take len text)) }
 {
-    let n = base::least(len, 11);
-    let info = directory_sys0::sys0_info(&text[..n]);
+    let info = directory_sys0::sys0_info(&text[..len.min(11)]);
     Layout {
         first: info.file_position as u8,
         row: info.row_size as u8,
@@ -185,38 +155,28 @@ fn family_layout(text: [u8; 11], len: usize) -> Layout
 fn directory_query(slc: Slc, h: Header) -> Query
     ensures { result ≡ directory_query (families_sys0 (take slc.type_len slc.type_text)) (header_in h) }
 {
-    let text = slc.type_text;
-    let layout = family_layout(text, slc.type_len);
+    let layout = family_layout(slc.type_text, slc.type_len);
     Query {
-        number: 0,
-        directory: true,
-        wants: Wants::Directory,
         size: h.size,
         code: h.code,
         element: h.element,
-        sub: 0,
-        mask: 0,
-        place: 0,
-        layout,
+        ..plain(Wants::Directory(layout))
     }
 }
 
-// CMD 0x0F: the questions in their order.
-fn function_query(slc: Slc, function: u8, s: &[u8]) -> Query
-    ensures { result ≡ function_query (take slc.type_len slc.type_text) function s.now (params_header s.now) }
+// CMD 0x0F: the questions in their order; none: bad.
+fn function_query(slc: Slc, function: u8, s: &[u8]) -> Option<Query>
+    ensures { wanted result ≡ function_query (take slc.type_len slc.type_text) function s.now (params_header s.now) }
 {
-    let h = processor_params::read_header(s);
-    if !h.whole {
-        return plain(Wants::Bad);
-    }
+    let h = processor_params::read_header(s)?;
     if !functions::known_function(function) {
-        return plain(Wants::Illegal);
+        return Some(plain(Wants::Illegal));
     }
     if functions::asks_directory(function, h.file) {
-        return directory_query(slc, h);
+        return Some(directory_query(slc, h));
     }
     if functions::asks_datalog(function, h.code) {
-        return plain(Wants::Entry);
+        return Some(plain(Wants::Entry));
     }
     file_query(function, h, s)
 }
@@ -231,13 +191,10 @@ pub fn asked(slc: Slc, command: &[u8]) -> Query
     }
     let function = command[n + 4];
     if command[n] == 0x0F {
-        return function_query(slc, function, &command[n + 5..]);
+        return function_query(slc, function, &command[n + 5..]).unwrap_or(plain(Wants::Bad));
     }
-    if command[n] != 0x06 {
-        return plain(Wants::Illegal);
+    if command[n] == 0x06 && function == 0x03 {
+        return plain(Wants::Diagnostic);
     }
-    if function != 0x03 {
-        return plain(Wants::Illegal);
-    }
-    plain(Wants::Diagnostic)
+    plain(Wants::Illegal)
 }

@@ -1,17 +1,15 @@
 -- The questions in front of what a command does.
-use Prim.Native.Nat.{ℕ, ◌≤◌, ◌<◌}
+use Rattle.std.specs.Prelude.{Option, None, Some, Result, Ok, Err}
+use Prim.Native.Nat.{ℕ, ◌≤◌}
 use mathlib.Core.Path.{◌≡◌, refl, sym, ◌∙◌}
-use mathlib.Core.Bool.{Bool, true, false, not}
+use mathlib.Core.Bool.{Bool, true, false}
 use mathlib.Core.List.{List}
-use mathlib.Core.Option.{Option, none, some}
-use borrow.Author.Tests.{leb-true, le-leb, lt-leb, not-true, not-false}
+use borrow.Author.Tests.{leb-true}
 use lib.Dec.{leb}
 use lib.ListN.{length}
+use Rattle.base.specs.declared.refusal.Refusal.{Refusal}
 use Rattle.parser_spec.proofs.Held.{no_some}
-use Rattle.processor_spec.specs.declared.Answered.TheVariants as answered
 use Rattle.processor_spec.specs.declared.Done.{Done}
-use Rattle.processor_spec.specs.declared.Refusal.{Refusal}
-use Rattle.processor_spec.specs.declared.Refusal.TheVariants as refusal
 use Rattle.processor_spec.specs.declared.Slc.{Slc}
 use Rattle.processor_spec.specs.Frame.{well_formed}
 use Rattle.processor_spec.specs.Pccc.{answered_of, reply_left, memory_left, slc_left, Left, left, left_by}
@@ -23,50 +21,31 @@ use Rattle.processor_soundness.proofs.Surveyed.{log_good as log-of}
 use Rattle.processor_table.specs.declared.Seen.{Seen}
 use Rattle.processor_refinement.specs.CallBySurvey.{first_no, question_of, questioned}
 
-module _ (c : List ℕ) (room : ℕ) (sound ok : Bool) (eo : ok ≡ sound) where
-  pub no_16 : not ok ≡ true → refusal.Number 16 ≡ refusal_of (question_of sound room c)
-  unfolding question_of
-  no_16 t = rw (← eo, not-true ok t)
-
-  module _ (t : not ok ≡ false) where
-    pub no_17 : room < 514 → refusal.Number 17 ≡ refusal_of (question_of sound room c)
-    unfolding question_of
-    no_17 l = rw (← eo, not-false ok t, lt-leb 514 room l)
-
-    module _ (l : 514 ≤ room) (w : Bool) (ew : w ≡ well_formed c) where
-      pub no_18 : not w ≡ true → refusal.Number 18 ≡ refusal_of (question_of sound room c)
-      unfolding question_of
-      no_18 u = rw (← eo, not-false ok t, le-leb 514 room l, ← ew, not-true w u)
-
-      pub no_more : not w ≡ false → refusal.None ≡ refusal_of (question_of sound room c)
-      unfolding question_of
-      no_more u = rw (← eo, not-false ok t, le-leb 514 room l, ← ew, not-false w u)
-
 -- what a refusal tells of the answers
-none_told : (q : Option ℕ) → refusal.None ≡ refusal_of q → q ≡ none
-none_told none e = refl
-none_told (some n) e = no_number e
+none_told : (q : Option Refusal) → Ok tt ≡ refusal_of q → q ≡ None
+none_told None e = refl
+none_told (Some n) e = no_number e
 
-number_told : (n : ℕ) (q : Option ℕ) → refusal.Number n ≡ refusal_of q → q ≡ some n
-number_told n none e = no_number (sym e)
-number_told n (some k) e = cc
+refusal_told : (n : Refusal) (q : Option Refusal) → Err n ≡ refusal_of q → q ≡ Some n
+refusal_told n None e = no_number (sym e)
+refusal_told n (Some k) e = cc
 
 -- ---- the call
 module _ (slc : Slc) (s : Seen) (m log c reply : List ℕ) where
-  abbrev asked : Option ℕ
+  abbrev asked : Option Refusal
   asked = question_of (sound_by slc s (length m) log) (length reply) c
 
-  module _ (r : Refusal) (e : r ≡ refusal_of asked) where
+  module _ (r : Result (Unit {0}) Refusal) (e : r ≡ refusal_of asked) where
     -- what `questioned` gives, for any step behind the questions
-    pub refuses : (x : Step) (n : ℕ) → r ≡ refusal.Number n → left (record { slc = slc; answered = answered.Refused n }) m reply ≡ left_by (questioned asked x) slc m log reply
+    pub refuses : (x : Step) (n : Refusal) → r ≡ Err n → left (record { slc = slc; answered = Err n }) m reply ≡ left_by (questioned asked x) slc m log reply
     unfolding refuse slc_left answered_of memory_left reply_left
-    refuses x n h = rw (number_told n asked (sym h ∙ e))
+    refuses x n h = rw (refusal_told n asked (sym h ∙ e))
 
-    pub goes_on : (x : Step) (y : Left Done) → r ≡ refusal.None → y ≡ left_by x slc m log reply → y ≡ left_by (questioned asked x) slc m log reply
+    pub goes_on : (x : Step) (y : Left Done) → r ≡ Ok tt → y ≡ left_by x slc m log reply → y ≡ left_by (questioned asked x) slc m log reply
     goes_on x y z h = rw (none_told asked (sym z ∙ e)) h
 
     -- where each is answered with yes
-    module _ (z : r ≡ refusal.None) where
+    module _ (z : r ≡ Ok tt) where
       record Answered-yes : Type 0 where
         sound : sound_by slc s (length m) log ≡ true
         room : 514 ≤ length reply
@@ -76,7 +55,7 @@ module _ (slc : Slc) (s : Seen) (m log c reply : List ℕ) where
       unfolding question_of
       all_yes = go (sound_by slc s (length m) log) refl (leb 514 (length reply)) refl (well_formed c) refl (none_told asked (sym z ∙ e))
         where
-          go : (b : Bool) → sound_by slc s (length m) log ≡ b → (r : Bool) → leb 514 (length reply) ≡ r → (w : Bool) → well_formed c ≡ w → first_no b r w ≡ none → Answered-yes
+          go : (b : Bool) → sound_by slc s (length m) log ≡ b → (r : Bool) → leb 514 (length reply) ≡ r → (w : Bool) → well_formed c ≡ w → first_no b r w ≡ None → Answered-yes
           go true p true q true u h = record { sound = p; room = leb-true 514 (length reply) q; well = u }
           go true p true q false u h = no_some (sym h)
           go true p false q w u h = no_some (sym h)

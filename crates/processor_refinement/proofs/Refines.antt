@@ -1,13 +1,14 @@
 -- The definitions of the query, the survey, `respond` and `show` give the model's: what a call does that asks, surveys and then answers.
+use Rattle.std.specs.Prelude.{Option, None, Some, unwrap_or, option_map}
 use Prim.Native.Nat.{ℕ, zero, suc, ◌+◌, ◌*◌, ◌≤◌}
 use mathlib.Core.Path.{◌≡◌, refl, sym, ap, subst, ◌∙◌}
 use mathlib.Core.Bool.{Bool, true, false, ◌&&◌, cond}
 use mathlib.Core.List.{List, [], ◌∷◌}
-use mathlib.Core.Option.{Option, none, some}
 use native.Mathlib.Omega.{arith}
 use borrow.Author.Tests.{leb-true}
 use lib.Dec.{leb, eqb}
 use lib.ListN.{length, take, drop}
+use Rattle.base.specs.declared.refusal.Refusal.TheVariants.{Unsound, ShortReplyMemory, MalformedCommand}
 use Rattle.parser_spec.specs.Parts.{then}
 use Rattle.parser_spec.proofs.Held.{that}
 use Rattle.directory_sys0.specs.Families.{sys0}
@@ -15,7 +16,7 @@ use Rattle.processor_spec.specs.declared.FileRecord.{FileRecord}
 use Rattle.processor_spec.specs.declared.Slc.{Slc}
 use Rattle.processor_spec.specs.Ask.{Ask, diagnostic, illegal, bad, or_bad as or_bad_ask, place, ask_directory, ask_file, ask_function, ask}
 use Rattle.processor_spec.specs.Directory.{directory, directory_size}
-use Rattle.processor_spec.specs.Files.{find, place_in, locate}
+use Rattle.processor_spec.specs.Files.{locate}
 use Rattle.processor_spec.specs.Frame.{well_formed, cmd, function}
 use Rattle.processor_spec.specs.Params.{several, Header, header, known_function, writes, asks_directory, asks_datalog, last_address, mask_word, value_bytes}
 use Rattle.processor_spec.specs.Pccc.{left_by, pccc_of}
@@ -26,22 +27,19 @@ use Rattle.processor_spec.proofs.Directory.{directory_length_lem}
 use Rattle.processor_spec.proofs.Plain.{sound_within, held_is}
 use Rattle.processor_spec.proofs.Tests.{and_l}
 use Rattle.processor_params.specs.Take.{place_of as rest_place}
+use Rattle.processor_query.specs.declared.Layout.{Layout}
 use Rattle.processor_query.specs.declared.Query.{Query}
 use Rattle.processor_query.specs.declared.Wants.TheVariants as wants
-use Rattle.processor_query.specs.Query.{layout_of, plainly, directory_query, access_query, file_query, or_bad, function_query, body_query, query_of}
+use Rattle.processor_query.specs.Query.{layout_of, directory_wanted, plainly, directory_query, access_query, file_query, or_bad, function_query, body_query, query_of}
 use Rattle.parser_spec.proofs.Behind.{Behind, behind_trans, Leaves}
 use Rattle.processor_query.proofs.ParamsLeave.{last_leaves, mask_leaves, header_leaves}
 use Rattle.processor_soundness.specs.Sound.{sound_by}
 use Rattle.processor_soundness.proofs.Surveyed.{sound_is}
 use Rattle.processor_table.specs.declared.Seen.{Seen}
-use Rattle.processor_table.specs.Survey.{there, or_none, told_of, survey_of}
+use Rattle.processor_table.specs.Survey.{told_of, survey_of}
 use Rattle.processor_refinement.specs.CallBySurvey.{first_no, question_of, questioned, respond_of, show_of}
 use Rattle.processor_refinement.specs.StepsBySurvey.{tells, status_step, pop_step, read_at, read_step, values_of, write_at, write_step, obey_step, size_asked, directory_length, size_bytes, part_step, directory_step}
 use Rattle.processor_locate.specs.Locate.{locate_by}
-
-found_is : (o : Option FileRecord) → cond (there o) (some (or_none o)) none ≡ o
-found_is none = refl
-found_is (some r) = refl
 
 -- a part of a prefix is the part of the whole
 take_prefix : (k n : ℕ) (s : List ℕ) → k ≤ n → take k (take n s) ≡ take k s
@@ -56,7 +54,7 @@ part_prefix (suc i) k zero s h = absurd (omega arith)
 part_prefix (suc i) k (suc n) [] h = refl
 part_prefix (suc i) k (suc n) (x ∷ s) h = part_prefix i k n s (omega arith)
 
-module _ (slc : Slc) (t : List FileRecord) (m log c : List ℕ) (fill : Query → List ℕ) where
+module _ (slc : Slc) (t : List FileRecord) (m log c : List ℕ) (fill : Layout → List ℕ) where
   abbrev rs : List FileRecord
   rs = take slc.files t
 
@@ -65,30 +63,30 @@ module _ (slc : Slc) (t : List FileRecord) (m log c : List ℕ) (fill : Query �
 
   -- what is done about a query of sound records
   abbrev does : Query → Step
-  does q = cond q.directory (directory_step (told_of q.number rs) q (fill q) c) (obey_step q.wants slc (told_of q.number rs) q m log c)
+  does q = unwrap_or (option_map (λ (l : Layout). directory_step (told_of q.number rs) q l (fill l) c) (directory_wanted q.wants)) (obey_step q.wants slc (told_of q.number rs) q m log c)
 
   locate_is : (q : Query) → locate_by (told_of q.number rs) q ≡ locate rs q.number q.code q.element q.sub q.size
   unfolding locate_by told_of locate
-  locate_is q = ap (λ (o : Option FileRecord). place_in o q.code q.element q.sub q.size) (found_is (find q.number rs))
+  locate_is q = refl
 
   -- ---- a file
   module _ (fn : ℕ) (p r : List ℕ) (h : Header) (ef : function c ≡ fn ∷ p) (b : Behind p r) where
     read_leaf : (mask : ℕ) (s : List ℕ) (o : Option ℕ)
-        → read_at o h.size m c ≡ perform (held_state slc t m log) c (or_bad_ask (then (place o s) (λ at z. some (Ask.read at h.size, z))))
+        → read_at o h.size m c ≡ perform (held_state slc t m log) c (or_bad_ask (then (place o s) (λ at z. Some (Ask.read at h.size, z))))
     unfolding then perform held_state bad
-    read_leaf mask s none = refl
-    read_leaf mask s (some at) = refl
+    read_leaf mask s None = refl
+    read_leaf mask s (Some at) = refl
 
     write_leaf : (mask : ℕ) (vs s : List ℕ) (o : Option ℕ)
-        → write_at o mask vs m c ≡ perform (held_state slc t m log) c (or_bad_ask (then (place o s) (λ at z. some (Ask.write at mask vs, z))))
+        → write_at o mask vs m c ≡ perform (held_state slc t m log) c (or_bad_ask (then (place o s) (λ at z. Some (Ask.write at mask vs, z))))
     unfolding then perform held_state bad
-    write_leaf mask vs s none = refl
-    write_leaf mask vs s (some at) = refl
+    write_leaf mask vs s None = refl
+    write_leaf mask vs s (Some at) = refl
 
     abbrev Same : Type 0
     Same = does (or_bad (file_query p fn h r)) ≡ perform (held_state slc t m log) c (or_bad_ask (ask_file rs fn h r))
 
-    module _ (x : ℕ × List ℕ) (e₁ : last_address fn r ≡ some x) (y : ℕ × List ℕ) (e₂ : mask_word fn x.1 ≡ some y) (b₂ : Behind p y.1) where
+    module _ (x : ℕ × List ℕ) (e₁ : last_address fn r ≡ Some x) (y : ℕ × List ℕ) (e₂ : mask_word fn x.1 ≡ Some y) (b₂ : Behind p y.1) where
       abbrev reading : Query
       reading = access_query wants.Read h x.0 y.0 (rest_place p y.1)
 
@@ -121,23 +119,23 @@ module _ (slc : Slc) (t : List FileRecord) (m log c : List ℕ) (fill : Query �
     unfolding or_bad file_query ask_file then obey_step perform bad
     file_same = sub (last_address fn r) refl (last_leaves fn r)
       where
-        by_writes : (w : Bool) → writes fn ≡ w → (x : ℕ × List ℕ) → last_address fn r ≡ some x → (y : ℕ × List ℕ) → mask_word fn x.1 ≡ some y → Behind p y.1 → Same
+        by_writes : (w : Bool) → writes fn ≡ w → (x : ℕ × List ℕ) → last_address fn r ≡ Some x → (y : ℕ × List ℕ) → mask_word fn x.1 ≡ Some y → Behind p y.1 → Same
         by_writes true f x e₁ y e₂ b₂ = writes_same x e₁ y e₂ b₂ f
         by_writes false f x e₁ y e₂ b₂ = reads_same x e₁ y e₂ b₂ f
 
-        mask : (x : ℕ × List ℕ) → last_address fn r ≡ some x → Behind p x.1 → (o : Option (ℕ × List ℕ)) → mask_word fn x.1 ≡ o → Leaves x.1 o → Same
-        mask x e₁ b₁ none e₂ l = rw (e₁, e₂)
-        mask x e₁ b₁ (some y) e₂ (that b₂) = by_writes (writes fn) refl x e₁ y e₂ (behind_trans b₁ b₂)
+        mask : (x : ℕ × List ℕ) → last_address fn r ≡ Some x → Behind p x.1 → (o : Option (ℕ × List ℕ)) → mask_word fn x.1 ≡ o → Leaves x.1 o → Same
+        mask x e₁ b₁ None e₂ l = rw (e₁, e₂)
+        mask x e₁ b₁ (Some y) e₂ (that b₂) = by_writes (writes fn) refl x e₁ y e₂ (behind_trans b₁ b₂)
 
         sub : (o : Option (ℕ × List ℕ)) → last_address fn r ≡ o → Leaves r o → Same
-        sub none e l = rw e
-        sub (some x) e (that b₁) = mask x e (behind_trans b b₁) (mask_word fn x.1) refl (mask_leaves fn x.1)
+        sub None e l = rw e
+        sub (Some x) e (that b₁) = mask x e (behind_trans b b₁) (mask_word fn x.1) refl (mask_leaves fn x.1)
 
   -- ---- the directory
-  module _ (filled : (q : Query) → q.layout ≡ layout_of (sys0 text) → take (length (directory rs (sys0 text))) (fill q) ≡ directory rs (sys0 text)) where
-    length_same : (q : Query) → q.layout ≡ layout_of (sys0 text) → directory_length (told_of q.number rs) q.layout ≡ length (directory rs (sys0 text))
+  module _ (filled : take (length (directory rs (sys0 text))) (fill (layout_of (sys0 text))) ≡ directory rs (sys0 text)) where
+    length_same : (number : ℕ) → directory_length (told_of number rs) (layout_of (sys0 text)) ≡ length (directory rs (sys0 text))
     unfolding directory_length told_of
-    length_same q e = rw e (sym (directory_length_lem rs (sys0 text)))
+    length_same number = sym (directory_length_lem rs (sys0 text))
 
     under : (k : Bool) (x y : Step) (u v : Ask) → (k ≡ true → x ≡ perform (held_state slc t m log) c u) → (k ≡ false → y ≡ perform (held_state slc t m log) c v)
         → cond k x y ≡ perform (held_state slc t m log) c (cond k u v)
@@ -146,15 +144,15 @@ module _ (slc : Slc) (t : List FileRecord) (m log c : List ℕ) (fill : Query �
 
     module _ (h : Header) where
       bytes_same : leb (2 * h.element + h.size) (length (directory rs (sys0 text))) ≡ true
-          → take h.size (drop (2 * h.element) (fill (directory_query (sys0 text) h))) ≡ take h.size (drop (2 * h.element) (directory rs (sys0 text)))
+          → take h.size (drop (2 * h.element) (fill (layout_of (sys0 text)))) ≡ take h.size (drop (2 * h.element) (directory rs (sys0 text)))
       bytes_same f =
-          sym (part_prefix (2 * h.element) h.size (length (directory rs (sys0 text))) (fill (directory_query (sys0 text) h)) (leb-true (2 * h.element + h.size) (length (directory rs (sys0 text))) f))
-          ∙ ap (λ (l : List ℕ). take h.size (drop (2 * h.element) l)) (filled (directory_query (sys0 text) h) refl)
+          sym (part_prefix (2 * h.element) h.size (length (directory rs (sys0 text))) (fill (layout_of (sys0 text))) (leb-true (2 * h.element + h.size) (length (directory rs (sys0 text))) f))
+          ∙ ap (λ (l : List ℕ). take h.size (drop (2 * h.element) l)) filled
 
       directory_same : does (directory_query (sys0 text) h) ≡ perform (held_state slc t m log) c (ask_directory rs (sys0 text) h)
       unfolding directory_step part_step ask_directory size_asked size_bytes directory_size perform bad
       directory_same =
-          rw (length_same (directory_query (sys0 text) h) refl)
+          rw (length_same 0)
           (under (eqb h.code (sys0 text).file_type) _ _ _ _
           (λ _. under (eqb h.element (sys0 text).size_element && (leb 2 h.size && leb h.size 8)) _ _ _ _
           (λ _. refl)
@@ -165,8 +163,8 @@ module _ (slc : Slc) (t : List FileRecord) (m log c : List ℕ) (fill : Query �
     function_same : (fn : ℕ) (p : List ℕ) → function c ≡ fn ∷ p → (o : Option (Header × List ℕ)) → Leaves p o
         → does (function_query text fn p o) ≡ perform (held_state slc t m log) c (ask_function rs text fn o)
     unfolding function_query obey_step perform bad
-    function_same fn p ef none l = refl
-    function_same fn p ef (some x) (that b) = known (known_function fn)
+    function_same fn p ef None l = refl
+    function_same fn p ef (Some x) (that b) = known (known_function fn)
       where
         datalog : (k : Bool) → does (cond k (plainly wants.Entry) (or_bad (file_query p fn x.0 x.1))) ≡ perform (held_state slc t m log) c (cond k Ask.pop (or_bad_ask (ask_file rs fn x.0 x.1)))
         datalog true = unfold pop_step held_state in refl
@@ -198,33 +196,33 @@ module _ (slc : Slc) (t : List FileRecord) (m log c : List ℕ) (fill : Query �
         by_cmd false = diagnosed (eqb (cmd c) 0x06 && eqb fn 0x03)
 
 -- ---- the call
-questioned_is : (b : Bool) (room : ℕ) (c : List ℕ) (x : Step) → questioned (question_of b room c) x ≡ cond b (cond (leb 514 room) (cond (well_formed c) x (refuse 18)) (refuse 17)) (refuse 16)
+questioned_is : (b : Bool) (room : ℕ) (c : List ℕ) (x : Step) → questioned (question_of b room c) x ≡ cond b (cond (leb 514 room) (cond (well_formed c) x (refuse MalformedCommand)) (refuse ShortReplyMemory)) (refuse Unsound)
 unfolding question_of
 questioned_is b room c x = go b (leb 514 room) (well_formed c)
   where
-    go : (b r w : Bool) → questioned (first_no b r w) x ≡ cond b (cond r (cond w x (refuse 18)) (refuse 17)) (refuse 16)
+    go : (b r w : Bool) → questioned (first_no b r w) x ≡ cond b (cond r (cond w x (refuse MalformedCommand)) (refuse ShortReplyMemory)) (refuse Unsound)
     go true true true = refl
     go true true false = refl
     go true false w = refl
     go false r w = refl
 
 questioned_same : (b k : Bool) (room : ℕ) (c : List ℕ) (x y : Step) → b ≡ k → (k ≡ true → x ≡ y)
-    → questioned (question_of b room c) x ≡ cond k (cond (leb 514 room) (cond (well_formed c) y (refuse 18)) (refuse 17)) (refuse 16)
+    → questioned (question_of b room c) x ≡ cond k (cond (leb 514 room) (cond (well_formed c) y (refuse MalformedCommand)) (refuse ShortReplyMemory)) (refuse Unsound)
 questioned_same b k room c x y e f = ap (λ (z : Bool). questioned (question_of z room c) x) e ∙ questioned_is k room c x ∙ go k f
   where
     go : (k : Bool) → (k ≡ true → x ≡ y)
-        → cond k (cond (leb 514 room) (cond (well_formed c) x (refuse 18)) (refuse 17)) (refuse 16) ≡ cond k (cond (leb 514 room) (cond (well_formed c) y (refuse 18)) (refuse 17)) (refuse 16)
-    go true f = ap (λ (z : Step). cond (leb 514 room) (cond (well_formed c) z (refuse 18)) (refuse 17)) (f refl)
+        → cond k (cond (leb 514 room) (cond (well_formed c) x (refuse MalformedCommand)) (refuse ShortReplyMemory)) (refuse Unsound) ≡ cond k (cond (leb 514 room) (cond (well_formed c) y (refuse MalformedCommand)) (refuse ShortReplyMemory)) (refuse Unsound)
+    go true f = ap (λ (z : Step). cond (leb 514 room) (cond (well_formed c) z (refuse MalformedCommand)) (refuse ShortReplyMemory)) (f refl)
     go false f = refl
 
 -- what fills the array: where the first n records are sound, it begins with the directory
 abbrev pub FillDef : Type 0
-FillDef = List FileRecord → ℕ → Query → Seen → List ℕ
+FillDef = List FileRecord → ℕ → Layout → Seen → List ℕ
 
 abbrev pub Fills : FillDef → Type 0
 Fills fill =
-    (t : List FileRecord) (n : ℕ) (q : Query) (text : List ℕ) → n ≤ length t → good_table (take n t) ≡ true → q.layout ≡ layout_of (sys0 text)
-    → take (length (directory (take n t) (sys0 text))) (fill t n q (survey_of t n q.number)) ≡ directory (take n t) (sys0 text)
+    (t : List FileRecord) (n number : ℕ) (text : List ℕ) → n ≤ length t → good_table (take n t) ≡ true
+    → take (length (directory (take n t) (sys0 text))) (fill t n (layout_of (sys0 text)) (survey_of t n number)) ≡ directory (take n t) (sys0 text)
 
 module _ (fill : FillDef) (fills : Fills fill) (slc : Slc) (t : List FileRecord) (m log c : List ℕ) where
   abbrev asks : Query
@@ -233,12 +231,12 @@ module _ (fill : FillDef) (fills : Fills fill) (slc : Slc) (t : List FileRecord)
   abbrev seen : Seen
   seen = survey_of t slc.files asks.number
 
-  abbrev filling : Query → List ℕ
-  filling q = fill t slc.files q (survey_of t slc.files q.number)
+  abbrev filling : Layout → List ℕ
+  filling l = fill t slc.files l seen
 
   -- what is behind the questions
   abbrev stepped : Seen → Step
-  stepped s = cond asks.directory (directory_step s asks (filling asks) c) (obey_step asks.wants slc s asks m log c)
+  stepped s = unwrap_or (option_map (λ (l : Layout). directory_step s asks l (filling l) c) (directory_wanted asks.wants)) (obey_step asks.wants slc s asks m log c)
 
   module _ (h : sound (state_of slc t m log) ≡ true) where
     held : state_of slc t m log ≡ held_state slc t m log
@@ -261,23 +259,23 @@ module _ (fill : FillDef) (fills : Fills fill) (slc : Slc) (t : List FileRecord)
     step_same =
         ap stepped seen_told
         ∙ body_same slc t m log c filling
-        (λ q e. fills t slc.files q (take slc.type_len slc.type_text) (leb-true slc.files (length t) files_there) table_good e) (function c) refl
+        (fills t slc.files asks.number (take slc.type_len slc.type_text) (leb-true slc.files (length t) files_there) table_good) (function c) refl
         ∙ unfold held_state in ap (λ (z : State). obey z c) (sym held)
 
   -- the premise `right` of the law of calls that branch for the directory
   pub right : (reply : List ℕ)
-      → cond asks.directory (show_of slc seen asks (filling asks) m log c reply) (respond_of slc seen asks m log c reply) ≡ pccc_of slc t m log c reply
+      → unwrap_or (option_map (λ (l : Layout). show_of slc seen asks l (filling l) m log c reply) (directory_wanted asks.wants)) (respond_of slc seen asks m log c reply) ≡ pccc_of slc t m log c reply
   unfolding show_of respond_of pccc_of step
   right reply =
-      go asks.directory
+      go (directory_wanted asks.wants)
       ∙ ap (λ (x : Step). left_by x slc m log reply)
       (questioned_same (sound_by slc seen (length m) log) (sound (state_of slc t m log)) (length reply) c (stepped seen) (obey (state_of slc t m log) c) (sound_is slc t m log asks.number) step_same)
     where
       ahead : Step → Step
       ahead x = questioned (question_of (sound_by slc seen (length m) log) (length reply) c) x
 
-      go : (b : Bool)
-          → cond b (left_by (ahead (directory_step seen asks (filling asks) c)) slc m log reply) (left_by (ahead (obey_step asks.wants slc seen asks m log c)) slc m log reply)
-          ≡ left_by (ahead (cond b (directory_step seen asks (filling asks) c) (obey_step asks.wants slc seen asks m log c))) slc m log reply
-      go true = refl
-      go false = refl
+      go : (o : Option Layout)
+          → unwrap_or (option_map (λ (l : Layout). left_by (ahead (directory_step seen asks l (filling l) c)) slc m log reply) o) (left_by (ahead (obey_step asks.wants slc seen asks m log c)) slc m log reply)
+          ≡ left_by (ahead (unwrap_or (option_map (λ (l : Layout). directory_step seen asks l (filling l) c) o) (obey_step asks.wants slc seen asks m log c))) slc m log reply
+      go None = refl
+      go (Some l) = refl

@@ -1,4 +1,5 @@
 -- Replies, and what a call leaves.
+use Rattle.std.specs.Prelude.{Ok}
 use Prim.Native.Nat.{ℕ, ◌+◌, ◌≤◌, ◌<◌}
 use mathlib.Core.Path.{◌≡◌, refl, ap, sym, subst, ◌∙◌}
 use mathlib.Core.Bool.{Bool, true, false, cond}
@@ -9,7 +10,6 @@ use lib.Dec.{leb}
 use lib.ListN.{length}
 use Rattle.base.specs.Put.{Wrote, Puts}
 use Rattle.base.proofs.Put.{put_none, puts_wrote, puts_kept}
-use Rattle.processor_spec.specs.declared.Answered.TheVariants as answered
 use Rattle.processor_spec.specs.declared.Done.{Done}
 use Rattle.processor_spec.specs.declared.Slc.{Slc}
 use Rattle.processor_spec.specs.Frame.{well_formed, framed}
@@ -31,21 +31,21 @@ kept slc m log c reply reply' r status bs a = λ i. record { done = a.done i; me
 
 -- the answers of `answer`
 pub told_there : (slc : Slc) (c bs reply reply' : List ℕ) (status r : ℕ) → Puts reply 0 (reply_to c status bs) r reply' → length (reply_to c status bs) ≤ 259 + length bs
-    → Told c status bs slc reply (record { slc = slc; answered = answered.Reply r }) reply'
+    → Told c status bs slc reply (record { slc = slc; answered = Ok r }) reply'
 unfolding tells_in roomed slc_left answered_of reply_left
 told_there slc c bs reply reply' status r p b = record { is = go (reply_to c status bs) p (leb (length (reply_to c status bs)) (length reply)) refl; small = b }
   where
     go : (x : List ℕ) → Puts reply 0 x r reply' → (t : Bool) → leb (length x) (length reply) ≡ t
-        → Answers (record { answer = replied (cond t x []); effect = keeps }) slc [] reply (record { slc = slc; answered = answered.Reply r }) reply'
+        → Answers (record { answer = replied (cond t x []); effect = keeps }) slc [] reply (record { slc = slc; answered = Ok r }) reply'
     go x p true e =
         let h : length x ≤ length reply = leb-true (length x) (length reply) e in
         let v : Wrote reply 0 x r reply' = puts_wrote p (omega arith) in
         let n : r ≡ length x = omega (arith, v.end) in
-        record { done = ap (λ (z : ℕ). record { slc = slc; answered = answered.Reply z }) n; left = v.now }
+        record { done = ap (λ (z : ℕ). record { slc = slc; answered = Ok z }) n; left = v.now }
     go x p false e =
         let h : length reply < length x = leb-false (length x) (length reply) e in
         let v : (r ≡ 0) × (reply' ≡ reply) = puts_kept p (omega arith) in
-        record { done = ap (λ (z : ℕ). record { slc = slc; answered = answered.Reply z }) v.0; left = v.1 ∙ sym (put_none reply 0) }
+        record { done = ap (λ (z : ℕ). record { slc = slc; answered = Ok z }) v.0; left = v.1 ∙ sym (put_none reply 0) }
 
 -- the reply is there where the command is well-formed and the reply memory has room for any
 pub told : {slc : Slc} {c bs reply reply' : List ℕ} {status : ℕ} {r : Done} → Told c status bs slc reply r reply' → well_formed c ≡ true → length bs ≤ 255 → 514 ≤ length reply

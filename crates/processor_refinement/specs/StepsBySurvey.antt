@@ -1,7 +1,6 @@
 -- What a well-formed command does, by the query, the survey and the lent memories. Each definition names the one of processor_spec that it
 -- refines, and what tells it; `Refines.antt` shows that a call does the same by either.
-use Rattle.std.specs.Prelude.{ℕ, ◌+◌, ◌*◌, ◌≤◌, ◌≡◌, Bool, ◌&&◌, cond, List, [], ◌∷◌, leb, eqb, length, take, drop}
-use Rattle.std.proofs.Math.Option.{Option, none, some}
+use Rattle.std.specs.Prelude.{ℕ, ◌+◌, ◌*◌, ◌≤◌, ◌≡◌, Bool, ◌&&◌, cond, List, [], ◌∷◌, leb, eqb, length, take, drop, Option, None, Some}
 use Rattle.base.specs.Numbers.{low_first}
 use Rattle.element_text.specs.Text.{fitted}
 use Rattle.processor_spec.specs.declared.Done.{Done}
@@ -52,8 +51,8 @@ pop_step slc log c = popped c (entries slc.log_left (drop slc.log_at log))
 
 -- Step.perform of a read, by the place: bad where there is none
 abbrev pub read_at : Option ℕ → ℕ → List ℕ → List ℕ → Step
-read_at none size memory c = tells_bad c
-read_at (some at) size memory c = tells c 0 (take size (drop at memory))
+read_at None size memory c = tells_bad c
+read_at (Some at) size memory c = tells c 0 (take size (drop at memory))
 
 -- Ask.ask_file of a read, performed: the survey and the query tell the place
 unfoldable pub read_step : Seen → Query → List ℕ → List ℕ → Step
@@ -65,8 +64,8 @@ values_of q c = take q.size (drop q.place (drop 1 (function c)))
 
 -- Step.perform of a write, by the place: bad where there is none
 abbrev pub write_at : Option ℕ → ℕ → List ℕ → List ℕ → List ℕ → Step
-write_at none mask values memory c = tells_bad c
-write_at (some at) mask values memory c = record { answer = replied (framed c 0 []); effect = lays at (masked_at memory at mask values) }
+write_at None mask values memory c = tells_bad c
+write_at (Some at) mask values memory c = record { answer = replied (framed c 0 []); effect = lays at (masked_at memory at mask values) }
 
 -- Ask.ask_file of a write, performed: the survey and the query tell the place, the query the mask and the values
 unfoldable pub write_step : Seen → Query → List ℕ → List ℕ → Step
@@ -82,7 +81,7 @@ obey_step wants.Illegal slc s q memory log c = tells c 0x10 []
 obey_step wants.Bad slc s q memory log c = tells_bad c
 obey_step wants.Diagnostic slc s q memory log c = status_step slc c
 obey_step wants.Entry slc s q memory log c = pop_step slc log c
-obey_step wants.Directory slc s q memory log c = tells_bad c
+obey_step (wants.Directory l) slc s q memory log c = tells_bad c
 obey_step wants.Read slc s q memory log c = read_step s q memory c
 obey_step wants.Write slc s q memory log c = write_step s q memory c
 
@@ -91,7 +90,7 @@ obey_step wants.Write slc s q memory log c = write_step s q memory c
 unfoldable pub directory_length : Seen → Layout → ℕ
 directory_length s l = l.first + s.next * l.row
 
--- the test of Ask.ask_directory for the size element, by the query and its layout
+-- the test of Ask.ask_directory for the size element, by the query and the layout
 unfoldable pub size_asked : Query → Layout → Bool
 size_asked q l = eqb q.element l.size_element && (leb 2 q.size && leb q.size 8)
 
@@ -103,11 +102,11 @@ size_bytes n size = fitted size 0 (low_first 2 n)
 unfoldable pub part_step : Query → ℕ → List ℕ → List ℕ → Step
 part_step q n d c = cond (leb (2 * q.element + q.size) n) (tells c 0 (take q.size (drop (2 * q.element) d))) (tells_bad c)
 
--- Ask.ask_directory, performed, by the query, the survey and an array `d` that begins with Directory.directory
-unfoldable pub directory_step : Seen → Query → List ℕ → List ℕ → Step
-directory_step s q d c =
-    cond (eqb q.code q.layout.code)
-    (cond (size_asked q q.layout)
-    (tells c 0 (size_bytes (directory_length s q.layout + q.layout.constant) q.size))
-    (part_step q (directory_length s q.layout) d c))
+-- Ask.ask_directory, performed, by the query, its layout, the survey and an array `d` that begins with Directory.directory
+unfoldable pub directory_step : Seen → Query → Layout → List ℕ → List ℕ → Step
+directory_step s q l d c =
+    cond (eqb q.code l.code)
+    (cond (size_asked q l)
+    (tells c 0 (size_bytes (directory_length s l + l.constant) q.size))
+    (part_step q (directory_length s l) d c))
     (tells_bad c)

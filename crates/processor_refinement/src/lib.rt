@@ -7,13 +7,15 @@ ghost use Rattle.processor_soundness.specs.Sound.{sound_by};
 ghost use Rattle.processor_refinement.specs.CallBySurvey.{question_of};
 ghost use Rattle.processor_refinement.specs.StepsBySurvey.{Told};
 
-use processor_spec::{Answered, Done, Refusal, Slc};
+use base::Refusal;
+use processor_spec::{Done, Slc};
 use processor_table::Seen;
 
 // The bytes of the longest reply: an id of 255, the 4 behind it, and 255 of data.
 const ROOM: usize = 514;
 
 // Is the state sound (16), is there room for any reply (17), is the command well-formed (18)? The first that is answered with no.
+#[tactic(auto, unfolding(crate::specs::CallBySurvey::question_of))]
 pub fn question(
     slc: Slc,
     s: Seen,
@@ -21,19 +23,19 @@ pub fn question(
     log: &[u8],
     room: usize,
     command: &[u8],
-) -> Refusal
+) -> Result<(), Refusal>
     ensures { result ≡ refusal_of (question_of (sound_by slc s memory log.now) room command.now) }
 {
     if !processor_soundness::sound(slc, s, memory, log) {
-        return Refusal::Number(16);
+        return Err(Refusal::Unsound);
     }
     if room < ROOM {
-        return Refusal::Number(17);
+        return Err(Refusal::ShortReplyMemory);
     }
     if !processor_frame::well_formed(command) {
-        return Refusal::Number(18);
+        return Err(Refusal::MalformedCommand);
     }
-    Refusal::None
+    Ok(())
 }
 
 // A reply that changes nothing else; none to a command that isn't well-formed, or where there is no room for it.
@@ -42,7 +44,7 @@ pub fn answer(slc: Slc, command: &[u8], status: u8, bytes: &[u8], reply: &mut [u
 {
     Done {
         slc,
-        answered: Answered::Reply(processor_frame::reply_to(command, status, bytes, reply)),
+        answered: Ok(processor_frame::reply_to(command, status, bytes, reply)),
     }
 }
 

@@ -1,9 +1,9 @@
 -- The diagnostic status, and reads and writes of a file.
+use Rattle.std.specs.Prelude.{Option, None, Some}
 use Prim.Native.Nat.{ℕ, ◌+◌, ◌≤◌}
 use mathlib.Core.Path.{◌≡◌, refl, sym, ap, subst, ◌∙◌}
 use mathlib.Core.Bool.{true}
 use mathlib.Core.List.{List, []}
-use mathlib.Core.Option.{none, some}
 use native.Mathlib.Omega.{arith}
 use lib.ListN.{length, get_or, take, drop, length-drop}
 use lib.Seq.{drop-drop, take_all}
@@ -17,10 +17,8 @@ use Rattle.processor_spec.specs.Pccc.{memory_left, slc_left, left, left_by}
 use Rattle.processor_masked_write.specs.Written.{written}
 use Rattle.processor_query.specs.declared.Query.{Query}
 use Rattle.processor_table.specs.declared.Seen.{Seen}
-use Rattle.processor_locate.specs.declared.Located.{Located}
-use Rattle.processor_locate.specs.declared.Located.TheVariants as place
 use Rattle.processor_refinement.specs.StepsBySurvey.{Answers, Told, tells, tells_bad, status_step, read_step, values_of, write_step}
-use Rattle.processor_locate.specs.Locate.{locate_by, place_of}
+use Rattle.processor_locate.specs.Locate.{locate_by}
 use Rattle.processor_refinement.proofs.Replying.{answers_left, told}
 
 -- the values stand in the parameters
@@ -39,25 +37,25 @@ module _ (slc : Slc) (c reply reply' : List ℕ) (r : Done) where
   unfolding status_step
   diagnosed d e n a w k = subst (λ (x : List ℕ). Answers (tells c 0 x) slc [] reply r reply') e (told a w (omega arith) k)
 
-  module _ (s : Seen) (q : Query) (m : List ℕ) (p : Located) (e : place_of p ≡ locate_by s q) where
-    pub fetched_bad : p ≡ place.No → Answers (tells_bad c) slc [] reply r reply' → Answers (read_step s q m c) slc [] reply r reply'
+  module _ (s : Seen) (q : Query) (m : List ℕ) (p : Option ℕ) (e : p ≡ locate_by s q) where
+    pub fetched_bad : p ≡ None → Answers (tells_bad c) slc [] reply r reply' → Answers (read_step s q m c) slc [] reply r reply'
     unfolding read_step
-    fetched_bad f a = let o : locate_by s q ≡ none = sym e ∙ ap place_of f in rw o a
+    fetched_bad f a = let o : locate_by s q ≡ None = sym e ∙ f in rw o a
 
-    pub fetched : (at : ℕ) (bs : List ℕ) → p ≡ place.At at → bs ≡ take q.size (drop at m) → Answers (tells c 0 bs) slc [] reply r reply' → Answers (read_step s q m c) slc [] reply r reply'
+    pub fetched : (at n : ℕ) (bs : List ℕ) → p ≡ Some at → n ≡ q.size → bs ≡ take n (drop at m) → Answers (tells c 0 bs) slc [] reply r reply' → Answers (read_step s q m c) slc [] reply r reply'
     unfolding read_step
-    fetched at bs f g a =
-        let o : locate_by s q ≡ some at = sym e ∙ ap place_of f in
-        rw o (subst (λ (x : List ℕ). Answers (tells c 0 x) slc [] reply r reply') g a)
+    fetched at n bs f z g a =
+        let o : locate_by s q ≡ Some at = sym e ∙ f in
+        rw o (subst (λ (x : List ℕ). Answers (tells c 0 x) slc [] reply r reply') (g ∙ ap (λ (k : ℕ). take k (drop at m)) z) a)
 
-    pub stored_bad : p ≡ place.No → Answers (tells_bad c) slc [] reply r reply' → left r m reply' ≡ left_by (write_step s q m c) slc m [] reply
+    pub stored_bad : p ≡ None → Answers (tells_bad c) slc [] reply r reply' → left r m reply' ≡ left_by (write_step s q m c) slc m [] reply
     unfolding write_step memory_left
-    stored_bad f a = let o : locate_by s q ≡ none = sym e ∙ ap place_of f in rw o (answers_left m m a refl)
+    stored_bad f a = let o : locate_by s q ≡ None = sym e ∙ f in rw o (answers_left m m a refl)
 
-    pub stored : (at : ℕ) (vs m' : List ℕ) → p ≡ place.At at → vs ≡ values_of q c → m' ≡ written m at q.mask vs → Answers (tells c 0 []) slc [] reply r reply'
+    pub stored : (at : ℕ) (vs m' : List ℕ) → p ≡ Some at → vs ≡ values_of q c → m' ≡ written m at q.mask vs → Answers (tells c 0 []) slc [] reply r reply'
         → left r m' reply' ≡ left_by (write_step s q m c) slc m [] reply
     unfolding write_step memory_left written slc_left
     stored at vs m' f ev em a =
-        let o : locate_by s q ≡ some at = sym e ∙ ap place_of f in
+        let o : locate_by s q ≡ Some at = sym e ∙ f in
         let v : m' ≡ put m at (masked_at m at q.mask (values_of q c)) = em ∙ ap (λ (z : List ℕ). put m at (masked_at m at q.mask z)) ev in
         rw o (λ i. record { done = a.done i; memory = v i; reply = a.left i })

@@ -1,14 +1,15 @@
 -- What a command does, by what is wanted.
+use Rattle.std.specs.Prelude.{Option, None, Some}
 use Prim.Native.Nat.{ℕ}
 use mathlib.Core.Path.{◌≡◌, refl, sym, subst, ◌∙◌}
 use mathlib.Core.List.{List, [], ◌∷◌}
-use mathlib.Core.Option.{Option, none, some}
 use lib.ListN.{drop}
 use Rattle.processor_spec.specs.declared.Done.{Done}
 use Rattle.processor_spec.specs.declared.Slc.{Slc}
 use Rattle.processor_spec.specs.Pccc.{memory_left, slc_left, left, left_by}
 use Rattle.processor_spec.specs.Plain.{entries}
 use Rattle.processor_spec.specs.Step.{popped}
+use Rattle.processor_query.specs.declared.Layout.{Layout}
 use Rattle.processor_query.specs.declared.Query.{Query}
 use Rattle.processor_query.specs.declared.Wants.{Wants}
 use Rattle.processor_query.specs.declared.Wants.TheVariants as wants
@@ -30,9 +31,9 @@ module _ (slc : Slc) (s : Seen) (q : Query) (m log c reply reply' : List ℕ) (r
   unfolding obey_step
   wants_bad w a = by_wants wants.Bad w (kept slc m log c reply reply' r 0xF0 _ a)
 
-  pub wants_directory : q.wants ≡ wants.Directory → Answers (tells_bad c) slc [] reply r reply' → left r m reply' ≡ left_by (obey_step q.wants slc s q m log c) slc m log reply
+  pub wants_directory : (l : Layout) → q.wants ≡ wants.Directory l → Answers (tells_bad c) slc [] reply r reply' → left r m reply' ≡ left_by (obey_step q.wants slc s q m log c) slc m log reply
   unfolding obey_step
-  wants_directory w a = by_wants wants.Directory w (kept slc m log c reply reply' r 0xF0 _ a)
+  wants_directory l w a = by_wants (wants.Directory l) w (kept slc m log c reply reply' r 0xF0 _ a)
 
   pub wants_diagnostic : q.wants ≡ wants.Diagnostic → Answers (status_step slc c) slc [] reply r reply' → left r m reply' ≡ left_by (obey_step q.wants slc s q m log c) slc m log reply
   unfolding obey_step status_step
@@ -51,8 +52,8 @@ module _ (slc : Slc) (s : Seen) (q : Query) (m log c reply reply' : List ℕ) (r
   wants_read w a = by_wants wants.Read w (go (locate_by s q) a)
     where
       go : (o : Option ℕ) → Answers (read_at o q.size m c) slc [] reply r reply' → left r m reply' ≡ left_by (read_at o q.size m c) slc m log reply
-      go none a = kept slc m log c reply reply' r 0xF0 _ a
-      go (some at) a = kept slc m log c reply reply' r 0 _ a
+      go None a = kept slc m log c reply reply' r 0xF0 _ a
+      go (Some at) a = kept slc m log c reply reply' r 0 _ a
 
 pub wants_write : (slc : Slc) (s : Seen) (q : Query) (m m' log c reply reply' : List ℕ) (r : Done) → q.wants ≡ wants.Write
     → left r m' reply' ≡ left_by (write_step s q m c) slc m [] reply → left r m' reply' ≡ left_by (obey_step q.wants slc s q m log c) slc m log reply
@@ -61,5 +62,5 @@ wants_write slc s q m m' log c reply reply' r w e =
     subst (λ (x : Wants). left r m' reply' ≡ left_by (obey_step x slc s q m log c) slc m log reply) (sym w) (e ∙ go (locate_by s q))
   where
     go : (o : Option ℕ) → left_by (write_at o q.mask (values_of q c) m c) slc m [] reply ≡ left_by (write_at o q.mask (values_of q c) m c) slc m log reply
-    go none = unfold slc_left in refl
-    go (some at) = unfold slc_left in refl
+    go None = unfold slc_left in refl
+    go (Some at) = unfold slc_left in refl

@@ -9,9 +9,8 @@ ghost use Rattle.processor_soundness.specs.Sound.{good_log_by};
 ghost use Rattle.processor_refinement.specs.StepsBySurvey.{Answers, status_step, pop_step, read_step, values_of, write_step, obey_step};
 ghost use Rattle.processor_refinement.specs.CallBySurvey.{respond_of};
 
-use processor_locate::Located;
 use processor_query::{Query, Wants};
-use processor_spec::{Answered, Done, Refusal, Slc};
+use processor_spec::{Done, Slc};
 use processor_table::Seen;
 
 // The diagnostic status.
@@ -37,7 +36,7 @@ fn pop(slc: Slc, log: &[u8], command: &[u8], reply: &mut [u8]) -> Done
     }
     let text = slc.type_text;
     let at = slc.log_at;
-    let n = base::word_at(log, at) as usize;
+    let n = usize::from(base::word_at(log, at));
     let rest = Slc {
         files: slc.files,
         type_text: text,
@@ -60,14 +59,14 @@ fn fetch(slc: Slc, s: Seen, q: Query, memory: &[u8], command: &[u8], reply: &mut
     requires in_bounds { 514 ≤ length reply.old }
     ensures { Answers (read_step s q memory.now command.now) slc [] reply.old result reply.new }
 {
-    let Located::At(at) = processor_locate::locate(s, q) else {
+    let Some(at) = processor_locate::locate(s, q) else {
         return processor_refinement::bad(slc, command, reply);
     };
     processor_refinement::answer(
         slc,
         command,
         0,
-        processor_locate::part(memory, at, q.size as usize),
+        processor_locate::part(memory, at, usize::from(q.size)),
         reply,
     )
 }
@@ -78,7 +77,7 @@ fn values(q: Query, command: &[u8]) -> &[u8]
 {
     let n = processor_frame::id_len(command);
     let parameters = processor_locate::part(command, n + 5, command.len());
-    processor_locate::part(parameters, q.place, q.size as usize)
+    processor_locate::part(parameters, q.place, usize::from(q.size))
 }
 
 // A masked write to a file.
@@ -87,7 +86,7 @@ fn store(slc: Slc, s: Seen, q: Query, memory: &mut [u8], command: &[u8], reply: 
     requires in_bounds { 514 ≤ length reply.old }
     ensures { left result memory.new reply.new ≡ left_by (write_step s q memory.old command.now) slc memory.old [] reply.old }
 {
-    let Located::At(at) = processor_locate::locate(s, q) else {
+    let Some(at) = processor_locate::locate(s, q) else {
         return processor_refinement::bad(slc, command, reply);
     };
     processor_masked_write::masked_write(memory, at, q.mask, values(q, command));
@@ -109,13 +108,12 @@ fn obey(
     requires in_bounds { 514 ≤ length reply.old }
     ensures { left result memory.new reply.new ≡ left_by (obey_step q.wants slc s q memory.old log.now command.now) slc memory.old log.now reply.old }
 {
-    let wants = q.wants;
-    match wants {
+    match q.wants {
         Wants::Illegal => processor_refinement::answer(slc, command, 0x10, &command[..0], reply),
         Wants::Bad => processor_refinement::bad(slc, command, reply),
         Wants::Diagnostic => diagnose(slc, command, reply),
         Wants::Entry => pop(slc, log, command, reply),
-        Wants::Directory => processor_refinement::bad(slc, command, reply),
+        Wants::Directory(_) => processor_refinement::bad(slc, command, reply),
         Wants::Read => fetch(slc, s, q, memory, command, reply),
         Wants::Write => store(slc, s, q, memory, command, reply),
     }
@@ -133,11 +131,12 @@ pub fn respond(
 ) -> Done
     ensures { left result memory.new reply.new ≡ respond_of slc s q memory.old log.now command.now reply.old }
 {
-    match processor_refinement::question(slc, s, memory.len(), log, reply.len(), command) {
-        Refusal::Number(n) => Done {
+    let asked = processor_refinement::question(slc, s, memory.len(), log, reply.len(), command);
+    if let Err(refusal) = asked {
+        return Done {
             slc,
-            answered: Answered::Refused(n),
-        },
-        Refusal::None => obey(slc, s, q, memory, log, command, reply),
+            answered: Err(refusal),
+        };
     }
+    obey(slc, s, q, memory, log, command, reply)
 }

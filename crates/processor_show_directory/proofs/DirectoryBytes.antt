@@ -20,35 +20,11 @@ use Rattle.processor_table.specs.declared.Seen.{Seen}
 use Rattle.processor_refinement.specs.StepsBySurvey.{Answers, tells, tells_bad, size_asked, directory_length, size_bytes, part_step, directory_step}
 
 -- ---- the length
-rows_small : (a b : ℕ) → a < 2 ^ 16 → b < 2 ^ 8 → a * b ≤ 65535 * 255
+pub rows_small : (a b : ℕ) → a < 2 ^ 16 → b < 2 ^ 8 → a * b ≤ 65535 * 255
 rows_small a b h k = let l : a ≤ 65535 = omega arith in let j : b ≤ 255 = omega arith in mul-le-mul {n₂ = 65535} l j
-
-pub rows_fit : (a b : ℕ) → a < 2 ^ 16 → b < 2 ^ 8 → a * b < 2 ^ 64
-rows_fit a b h k = omega (arith, rows_small a b h k)
-
-pub length_fits : (f a b : ℕ) → f < 2 ^ 8 → a < 2 ^ 16 → b < 2 ^ 8 → f + a * b < 2 ^ 64
-length_fits f a b g h k = omega (arith, rows_small a b h k)
-
-pub length_is : (s : Seen) (l : Layout) → l.first < 2 ^ 8 → s.next < 2 ^ 16 → l.row < 2 ^ 8
-    → (l.first + s.next * l.row ≡ directory_length s l) × (l.first + s.next * l.row ≤ 16711680)
-unfolding directory_length
-length_is s l f n r = (refl, omega (arith, rows_small s.next l.row n r))
 
 -- ---- the size element
 module _ (q : Query) (l : Layout) where
-  pub size_other : (q.element ≡ l.size_element → ⊥) → false ≡ size_asked q l
-  unfolding size_asked
-  size_other ne = rw (ne_eqb q.element l.size_element ne)
-
-  module _ (e : q.element ≡ l.size_element) where
-    pub size_below : q.size < 2 → false ≡ size_asked q l
-    unfolding size_asked
-    size_below h = rw (eq-eqb q.element l.size_element e, lt-leb 2 q.size h)
-
-    pub size_test : 2 ≤ q.size → leb q.size 8 ≡ size_asked q l
-    unfolding size_asked
-    size_test h = rw (eq-eqb q.element l.size_element e, le-leb 2 q.size h)
-
   module _ (ok : Bool) (t : ok ≡ true) (e : ok ≡ size_asked q l) where
     in_range_lem : (leb 2 q.size && leb q.size 8) ≡ true
     unfolding size_asked
@@ -65,50 +41,50 @@ take_same zero n h = refl
 take_same (suc j) zero h = absurd (omega arith)
 take_same (suc j) (suc n) h = ap (λ (l : List ℕ). 0 ∷ l) (take_same j n (omega arith))
 
-module _ (n size : ℕ) (h : (2 ≤ size) × (size ≤ 8)) where
+module _ (n size : ℕ) (h : (2 ≤ size) × (size ≤ 8)) (k : ℕ) (ek : k ≡ size) where
   abbrev eight : List ℕ
   eight = n % 256 ∷ n / 256 % 256 ∷ 0 ∷ 0 ∷ 0 ∷ 0 ∷ 0 ∷ 0 ∷ []
 
-  pub eight_length : size ≡ length (take size eight)
-  eight_length = sym (length-take-le size eight h.1)
+  pub eight_length : k ≡ length (take k eight)
+  eight_length = let l : k ≤ 8 = omega (arith, h.1) in sym (length-take-le k eight l)
 
-  pub eight_small : length (take size eight) ≤ 255
+  pub eight_small : length (take k eight) ≤ 255
   eight_small = rw (← eight_length) (omega (arith, h.1))
 
-  eight_is : take size eight ≡ size_bytes n size
+  eight_is : take k eight ≡ size_bytes n size
   unfolding size_bytes fitted low_first
   eight_is =
       let e : size ≡ suc (suc (size - 2)) = omega (arith, h.0) in
       let t : take {A = ℕ} (size - 2) (replicate 6 0) ≡ replicate (size - 2) 0 = take_same (size - 2) 6 (omega (arith, h.1)) in
       let l : (size - 2) ≡ size - length (low_first 2 n) = refl in
-      let a : take size eight ≡ n % 256 ∷ n / 256 % 256 ∷ take (size - 2) (replicate 6 0) = ap (λ (k : ℕ). take k eight) e in
+      let a : take k eight ≡ n % 256 ∷ n / 256 % 256 ∷ take (size - 2) (replicate 6 0) = ap (λ (j : ℕ). take j eight) (ek ∙ e) in
       let b : take size (n % 256 ∷ n / 256 % 256 ∷ []) ≡ n % 256 ∷ n / 256 % 256 ∷ [] = take_all size (n % 256 ∷ n / 256 % 256 ∷ []) h.0 in
       a ∙ ap (λ (x : List ℕ). n % 256 ∷ n / 256 % 256 ∷ x) t ∙ ap (λ (x : List ℕ). x ++ replicate (size - 2) 0) (sym b)
 
-  pub size_told : (slc : Slc) (c reply reply' : List ℕ) (r : Done) → Answers (tells c 0 (take size eight)) slc [] reply r reply' → Answers (tells c 0 (size_bytes n size)) slc [] reply r reply'
+  pub size_told : (slc : Slc) (c reply reply' : List ℕ) (r : Done) → Answers (tells c 0 (take k eight)) slc [] reply r reply' → Answers (tells c 0 (size_bytes n size)) slc [] reply r reply'
   size_told slc c reply reply' r a = subst (λ (x : List ℕ). Answers (tells c 0 x) slc [] reply r reply') eight_is a
 
 -- ---- what a command for the directory does
-module _ (slc : Slc) (q : Query) (n : ℕ) (d c reply reply' : List ℕ) (r : Done) where
-  pub part_past : n < 2 * q.element + q.size → Answers (tells_bad c) slc [] reply r reply' → Answers (part_step q n d c) slc [] reply r reply'
+module _ (slc : Slc) (q : Query) (n : ℕ) (d c reply reply' : List ℕ) (r : Done) (x y : ℕ) (ex : x ≡ q.element) (ey : y ≡ q.size) where
+  pub part_past : n < 2 * x + y → Answers (tells_bad c) slc [] reply r reply' → Answers (part_step q n d c) slc [] reply r reply'
   unfolding part_step
-  part_past l a = rw (lt-leb (2 * q.element + q.size) n l) a
+  part_past l a = rw (sym ex, sym ey, lt-leb (2 * x + y) n l) a
 
-  pub part_there : (bs : List ℕ) → 2 * q.element + q.size ≤ n → bs ≡ take q.size (drop (2 * q.element) d) → Answers (tells c 0 bs) slc [] reply r reply'
+  pub part_there : (bs : List ℕ) → 2 * x + y ≤ n → bs ≡ take y (drop (2 * x) d) → Answers (tells c 0 bs) slc [] reply r reply'
       → Answers (part_step q n d c) slc [] reply r reply'
   unfolding part_step
-  part_there bs l g a = rw (le-leb (2 * q.element + q.size) n l, ← g) a
+  part_there bs l g a = rw (sym ex, sym ey, le-leb (2 * x + y) n l, ← g) a
 
-module _ (slc : Slc) (s : Seen) (q : Query) (d c reply reply' : List ℕ) (r : Done) where
-  pub list_other : (q.code ≡ q.layout.code → ⊥) → Answers (tells_bad c) slc [] reply r reply' → Answers (directory_step s q d c) slc [] reply r reply'
+module _ (slc : Slc) (s : Seen) (q : Query) (l : Layout) (d c reply reply' : List ℕ) (r : Done) where
+  pub list_other : (q.code ≡ l.code → ⊥) → Answers (tells_bad c) slc [] reply r reply' → Answers (directory_step s q l d c) slc [] reply r reply'
   unfolding directory_step
-  list_other ne a = rw (ne_eqb q.code q.layout.code ne) a
+  list_other ne a = rw (ne_eqb q.code l.code ne) a
 
-  module _ (e : q.code ≡ q.layout.code) (n : ℕ) (en : n ≡ directory_length s q.layout) (ok : Bool) (eo : ok ≡ size_asked q q.layout) where
-    pub list_size : ok ≡ true → Answers (tells c 0 (size_bytes (n + q.layout.constant) q.size)) slc [] reply r reply' → Answers (directory_step s q d c) slc [] reply r reply'
+  module _ (e : q.code ≡ l.code) (n : ℕ) (en : n ≡ directory_length s l) (ok : Bool) (eo : ok ≡ size_asked q l) where
+    pub list_size : (k : ℕ) → k ≡ l.constant → ok ≡ true → Answers (tells c 0 (size_bytes (n + k) q.size)) slc [] reply r reply' → Answers (directory_step s q l d c) slc [] reply r reply'
     unfolding directory_step
-    list_size t a = rw (eq-eqb q.code q.layout.code e, ← eo, ← en, t) a
+    list_size k f t a = rw (eq-eqb q.code l.code e, ← eo, ← en, t, ← f) a
 
-    pub list_bytes : ok ≡ false → Answers (part_step q n d c) slc [] reply r reply' → Answers (directory_step s q d c) slc [] reply r reply'
+    pub list_bytes : ok ≡ false → Answers (part_step q n d c) slc [] reply r reply' → Answers (directory_step s q l d c) slc [] reply r reply'
     unfolding directory_step
-    list_bytes t a = rw (eq-eqb q.code q.layout.code e, ← eo, ← en, t) a
+    list_bytes t a = rw (eq-eqb q.code l.code e, ← eo, ← en, t) a

@@ -8,27 +8,23 @@ ghost use Rattle.processor_refinement.specs.StepsBySurvey.{Answers, tells, size_
 ghost use Rattle.processor_refinement.specs.CallBySurvey.{show_of};
 
 use processor_query::{Layout, Query};
-use processor_spec::{Answered, Done, Refusal, Slc};
+use processor_spec::{Done, Slc};
 use processor_table::Seen;
 
 // The directory's length.
+#[tactic(auto, using(crate::proofs::DirectoryBytes::rows_small), unfolding(processor_refinement::specs::StepsBySurvey::directory_length))]
 fn directory_length(s: Seen, l: Layout) -> usize
     ensures { (result ≡ directory_length s l) × (result ≤ 16711680) }
 {
-    (l.first as usize) + (s.next as usize) * (l.row as usize)
+    usize::from(l.first) + usize::from(s.next) * usize::from(l.row)
 }
 
 // Is the size element asked for, with size 2 to 8?
+#[tactic(auto, unfolding(processor_refinement::specs::StepsBySurvey::size_asked))]
 fn size_asked(q: Query, l: Layout) -> bool
     ensures { result ≡ size_asked q l }
 {
-    if q.element != (l.size_element as u16) {
-        return false;
-    }
-    if q.size < 2 {
-        return false;
-    }
-    q.size <= 8
+    q.element == u16::from(l.size_element) && 2 <= q.size && q.size <= 8
 }
 
 // The directory's length as a word, zero-padded.
@@ -38,7 +34,7 @@ fn tell_size(slc: Slc, n: usize, size: u8, command: &[u8], reply: &mut [u8]) -> 
     requires in_bounds { 514 ≤ length reply.old }
     ensures { Answers (tells command.now 0 (size_bytes n size)) slc [] reply.old result reply.new }
 {
-    let k = size as usize;
+    let k = usize::from(size);
     let word = [(n % 256) as u8, (n / 256 % 256) as u8, 0, 0, 0, 0, 0, 0];
     processor_refinement::answer(slc, command, 0, &word[..k], reply)
 }
@@ -49,32 +45,32 @@ fn list_part(slc: Slc, q: Query, n: usize, d: &[u8], command: &[u8], reply: &mut
     requires in_bounds { 514 ≤ length reply.old }
     ensures { Answers (part_step q n d.now command.now) slc [] reply.old result reply.new }
 {
-    let from = 2 * (q.element as usize);
-    if n < from + (q.size as usize) {
+    let from = 2 * usize::from(q.element);
+    let size = usize::from(q.size);
+    if n < from + size {
         return processor_refinement::bad(slc, command, reply);
     }
     processor_refinement::answer(
         slc,
         command,
         0,
-        processor_locate::part(d, from, q.size as usize),
+        processor_locate::part(d, from, size),
         reply,
     )
 }
 
 // What a command for the directory does; `d` begins with the directory.
-fn list(slc: Slc, s: Seen, q: Query, d: &[u8], command: &[u8], reply: &mut [u8]) -> Done
+fn list(slc: Slc, s: Seen, q: Query, l: Layout, d: &[u8], command: &[u8], reply: &mut [u8]) -> Done
     requires command_value { well_formed command.now ≡ true }
     requires in_bounds { 514 ≤ length reply.old }
-    ensures { Answers (directory_step s q d.now command.now) slc [] reply.old result reply.new }
+    ensures { Answers (directory_step s q l d.now command.now) slc [] reply.old result reply.new }
 {
-    let l = q.layout;
     if q.code != l.code {
         return processor_refinement::bad(slc, command, reply);
     }
     let n = directory_length(s, l);
     if size_asked(q, l) {
-        return tell_size(slc, n + (l.constant as usize), q.size, command, reply);
+        return tell_size(slc, n + usize::from(l.constant), q.size, command, reply);
     }
     list_part(slc, q, n, d, command, reply)
 }
@@ -84,19 +80,21 @@ pub fn show(
     slc: Slc,
     s: Seen,
     q: Query,
+    l: Layout,
     d: [u8; 2793],
     memory: &mut [u8],
     log: &[u8],
     command: &[u8],
     reply: &mut [u8],
 ) -> Done
-    ensures { left result memory.new reply.new ≡ show_of slc s q d memory.old log.now command.now reply.old }
+    ensures { left result memory.new reply.new ≡ show_of slc s q l d memory.old log.now command.now reply.old }
 {
-    match processor_refinement::question(slc, s, memory.len(), log, reply.len(), command) {
-        Refusal::Number(n) => Done {
+    let asked = processor_refinement::question(slc, s, memory.len(), log, reply.len(), command);
+    if let Err(refusal) = asked {
+        return Done {
             slc,
-            answered: Answered::Refused(n),
-        },
-        Refusal::None => list(slc, s, q, &d, command, reply),
+            answered: Err(refusal),
+        };
     }
+    list(slc, s, q, l, &d, command, reply)
 }

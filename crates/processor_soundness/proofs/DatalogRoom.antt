@@ -1,4 +1,5 @@
 -- The datalog entry by entry.
+use Rattle.std.specs.Prelude.{None, Some}
 use Prim.Native.Nat.{ℕ, zero, suc, ◌+◌, ◌-◌, ◌≤◌, ◌<◌}
 use mathlib.Core.Path.{◌≡◌, refl, sym, ap, ◌∙◌}
 use mathlib.Core.Bool.{Bool, true, false, ◌&&◌, cond}
@@ -63,44 +64,44 @@ module _ (log : List ℕ) where
   unfolding well_kept holds entries every
   kept_one k = parted (leb 2 (length log) && leb (entry_room log) (length log)) (leb (entry_room log) 257) _ _ _ entry_test
 
-  there : (r : ℕ) → r ≡ good_room log → (r ≡ 0 → ⊥) → ((leb 2 (length log) && leb (entry_room log) (length log) && leb (entry_room log) 257) ≡ true) × (r ≡ entry_room log)
+  there : {r : ℕ} → Some r ≡ good_room log → ((leb 2 (length log) && leb (entry_room log) (length log) && leb (entry_room log) 257) ≡ true) × (r ≡ entry_room log)
   unfolding good_room
-  there r e ne = go (leb 2 (length log) && leb (entry_room log) (length log) && leb (entry_room log) 257) refl e
+  there {r} e = go (leb 2 (length log) && leb (entry_room log) (length log) && leb (entry_room log) 257) e
     where
-      go : (b : Bool) → (leb 2 (length log) && leb (entry_room log) (length log) && leb (entry_room log) 257) ≡ b → r ≡ cond b (entry_room log) 0 → (b ≡ true) × (r ≡ entry_room log)
-      go true t e = (refl, e)
-      go false t e = absurd (ne e)
+      go : (b : Bool) → Some r ≡ cond b (Some (entry_room log)) None → (b ≡ true) × (r ≡ entry_room log)
+      go true e = (refl, cc)
+      go false e = absurd (let z : ◌≡◌ {A = ℕ} 0 1 = cc in omega arith)
 
-  none_there : (r : ℕ) → r ≡ good_room log → r ≡ 0 → (leb 2 (length log) && leb (entry_room log) (length log) && leb (entry_room log) 257) ≡ false
-  unfolding good_room entry_room
-  none_there r e z = go (leb 2 (length log) && leb (2 + number (take 2 log)) (length log) && leb (2 + number (take 2 log)) 257) e
+  none_there : None ≡ good_room log → (leb 2 (length log) && leb (entry_room log) (length log) && leb (entry_room log) 257) ≡ false
+  unfolding good_room
+  none_there e = go (leb 2 (length log) && leb (entry_room log) (length log) && leb (entry_room log) 257) e
     where
-      go : (b : Bool) → r ≡ cond b (2 + number (take 2 log)) 0 → b ≡ false
-      go true e = absurd (omega arith)
+      go : (b : Bool) → None ≡ cond b (Some (entry_room log)) None → b ≡ false
+      go true e = absurd (let z : ◌≡◌ {A = ℕ} 0 1 = cc in omega arith)
       go false e = refl
 
-module _ (log : List ℕ) (at room : ℕ) (e : room ≡ good_room (drop at log)) where
+module _ (log : List ℕ) (at : ℕ) where
   -- an entry is there
-  module _ (ne : room ≡ 0 → ⊥) where
+  module _ {room : ℕ} (e : Some room ≡ good_room (drop at log)) where
     pub room_fits : at + room ≤ length log
     room_fits =
-        let p : ((leb 2 (length (drop at log)) && leb (entry_room (drop at log)) (length (drop at log)) && leb (entry_room (drop at log)) 257) ≡ true) × (room ≡ entry_room (drop at log)) = there (drop at log) room e ne in
+        let p : ((leb 2 (length (drop at log)) && leb (entry_room (drop at log)) (length (drop at log)) && leb (entry_room (drop at log)) 257) ≡ true) × (room ≡ entry_room (drop at log)) = there (drop at log) e in
         let l : entry_room (drop at log) ≤ length (drop at log) = leb-true (entry_room (drop at log)) (length (drop at log)) (and_r (leb 2 (length (drop at log))) _ (and_l _ _ p.0)) in
         let n : length (drop at log) ≡ length log - at = length-drop at log in
-        let z : 0 < room = omega arith in
+        let z : 0 < entry_room (drop at log) = unfold entry_room in omega arith in
         omega (arith, p.1, l, n)
 
     pub kept_next : (k : ℕ) → 0 < k → well_kept (k - 1) (drop (at + room) log) ≡ well_kept k (drop at log)
     kept_next k h =
-        let p : ((leb 2 (length (drop at log)) && leb (entry_room (drop at log)) (length (drop at log)) && leb (entry_room (drop at log)) 257) ≡ true) × (room ≡ entry_room (drop at log)) = there (drop at log) room e ne in
+        let p : ((leb 2 (length (drop at log)) && leb (entry_room (drop at log)) (length (drop at log)) && leb (entry_room (drop at log)) 257) ≡ true) × (room ≡ entry_room (drop at log)) = there (drop at log) e in
         let q : k ≡ suc (k - 1) = omega arith in
         let d : drop (at + room) log ≡ drop (entry_room (drop at log)) (drop at log) = sym (drop-drop room at log) ∙ ap (λ (n : ℕ). drop n (drop at log)) p.1 in
         ap (well_kept (k - 1)) d ∙ sym (ap (λ (n : ℕ). well_kept n (drop at log)) q ∙ kept_one (drop at log) (k - 1) ∙ rw p.0)
 
-  pub kept_stop : (k : ℕ) → room ≡ 0 → 0 < k → well_kept k (drop at log) ≡ false
-  kept_stop k z h =
+  pub kept_stop : (k : ℕ) → None ≡ good_room (drop at log) → 0 < k → well_kept k (drop at log) ≡ false
+  kept_stop k e h =
       let q : k ≡ suc (k - 1) = omega arith in
-      ap (λ (n : ℕ). well_kept n (drop at log)) q ∙ kept_one (drop at log) (k - 1) ∙ rw (none_there (drop at log) room e z)
+      ap (λ (n : ℕ). well_kept n (drop at log)) q ∙ kept_one (drop at log) (k - 1) ∙ rw (none_there (drop at log) e)
 
 pub kept_none : (log : List ℕ) → well_kept 0 log ≡ true
 unfolding well_kept holds entries every
@@ -108,7 +109,7 @@ kept_none log = refl
 
 -- ---- the room of one entry, by the tests that the code makes
 module _ (log : List ℕ) (at : ℕ) where
-  pub room_none : length log ≤ at → 0 ≡ good_room (drop at log)
+  pub room_none : length log ≤ at → None ≡ good_room (drop at log)
   unfolding good_room
   room_none h = rw (drop_of_length-le log h)
 
@@ -120,43 +121,46 @@ module _ (log : List ℕ) (at : ℕ) where
     left_is : length log - at ≡ length (drop at log)
     left_is = sym (length-drop at log)
 
-    pub room_cut : length log - at < room → 0 ≡ good_room (drop at log)
+    pub room_cut : length log - at < room → None ≡ good_room (drop at log)
     unfolding good_room
     room_cut h =
         let l : length (drop at log) < entry_room (drop at log) = omega (arith, room_is, left_is) in
         rw (lt-leb (entry_room (drop at log)) (length (drop at log)) l) (go (leb 2 (length (drop at log))) (entry_room (drop at log)))
       where
-        go : (a : Bool) (r : ℕ) → 0 ≡ cond (a && false && leb r 257) r 0
+        go : (a : Bool) (r : ℕ) → None ≡ cond (a && false && leb r 257) (Some r) None
         go true r = refl
         go false r = refl
 
-    pub room_long : 257 < room → 0 ≡ good_room (drop at log)
+    pub room_long : 257 < room → None ≡ good_room (drop at log)
     unfolding good_room
     room_long h =
         let l : 257 < entry_room (drop at log) = omega (arith, room_is) in
         rw (lt-leb (entry_room (drop at log)) 257 l) (go (leb 2 (length (drop at log)) && leb (entry_room (drop at log)) (length (drop at log))) (entry_room (drop at log)))
       where
-        go : (a : Bool) (r : ℕ) → 0 ≡ cond (a && false) r 0
+        go : (a : Bool) (r : ℕ) → None ≡ cond (a && false) (Some r) None
         go true r = refl
         go false r = refl
 
-    pub room_there : room ≤ length log - at → room ≤ 257 → room ≡ good_room (drop at log)
+    pub room_there : room ≤ length log - at → room ≤ 257 → Some room ≡ good_room (drop at log)
     unfolding good_room
     room_there h k =
         let a : 2 ≤ length (drop at log) = omega (arith, left_is) in
         let b : entry_room (drop at log) ≤ length (drop at log) = omega (arith, room_is, left_is) in
         let c : entry_room (drop at log) ≤ 257 = omega (arith, room_is) in
-        rw (le-leb 2 (length (drop at log)) a, le-leb (entry_room (drop at log)) (length (drop at log)) b, le-leb (entry_room (drop at log)) 257 c) room_is
+        rw (le-leb 2 (length (drop at log)) a, le-leb (entry_room (drop at log)) (length (drop at log)) b, le-leb (entry_room (drop at log)) 257 c, room_is)
 
 -- ---- the loop over the entries that are left
-module _ (log : List ℕ) (at left place k : ℕ) (h : left ≤ 64) (inv : well_kept k (drop place log) ≡ well_kept left (drop at log)) where
-  pub log_goes : (room : ℕ) → room ≡ good_room (drop place log) → (room ≡ 0 → ⊥) → 0 < k → well_kept (k - 1) (drop (place + room) log) ≡ well_kept left (drop at log)
-  log_goes room e ne l = kept_next log place room e ne k l ∙ inv
+module _ (log : List ℕ) (at left place k : ℕ) (inv : well_kept k (drop place log) ≡ well_kept left (drop at log)) where
+  pub log_goes : {room : ℕ} (j : ℕ) → Some room ≡ good_room (drop place log) → k ≡ j + 1 → well_kept j (drop (place + room) log) ≡ well_kept left (drop at log)
+  log_goes j e q =
+      let p : j ≡ k - 1 = omega arith in
+      rw p (kept_next log place e k (omega arith) ∙ inv)
 
-  pub log_stops : (room : ℕ) → room ≡ good_room (drop place log) → room ≡ 0 → 0 < k → false ≡ (holds left (drop at log) && good_log (entries left (drop at log)))
-  log_stops room e z l = sym (kept_stop log place room e k z l) ∙ inv ∙ kept_good left (drop at log) h
+  module _ (h : left ≤ 64) where
+    pub log_stops : None ≡ good_room (drop place log) → 0 < k → false ≡ (holds left (drop at log) && good_log (entries left (drop at log)))
+    log_stops e l = sym (kept_stop log place k e l) ∙ inv ∙ kept_good left (drop at log) h
 
-  pub log_ends : k ≤ 0 → true ≡ (holds left (drop at log) && good_log (entries left (drop at log)))
-  log_ends l =
-      let z : k ≡ 0 = omega arith in
-      sym (ap (λ (n : ℕ). well_kept n (drop place log)) z ∙ kept_none (drop place log)) ∙ inv ∙ kept_good left (drop at log) h
+    pub log_ends : k ≤ 0 → true ≡ (holds left (drop at log) && good_log (entries left (drop at log)))
+    log_ends l =
+        let z : k ≡ 0 = omega arith in
+        sym (ap (λ (n : ℕ). well_kept n (drop place log)) z ∙ kept_none (drop place log)) ∙ inv ∙ kept_good left (drop at log) h

@@ -1,9 +1,8 @@
 -- Soundness, test by test; and what the survey of a table gives is the state's.
-use Prim.Native.Nat.{ℕ, ◌≤◌, ◌<◌}
+use Prim.Native.Nat.{ℕ}
 use mathlib.Core.Path.{◌≡◌, refl, sym, ◌∙◌}
-use mathlib.Core.Bool.{Bool, true, false, not, ◌&&◌, cond}
+use mathlib.Core.Bool.{Bool, true, false, ◌&&◌, cond}
 use mathlib.Core.List.{List}
-use borrow.Author.Tests.{le-leb, lt-leb, not-true, not-false}
 use lib.Dec.{leb}
 use lib.ListN.{length, take, drop}
 use Rattle.processor_spec.specs.declared.FileRecord.{FileRecord}
@@ -17,24 +16,6 @@ use Rattle.processor_table.specs.Survey.{told_of, lost_of, survey_of}
 use Rattle.processor_soundness.specs.Sound.{good_log_by, sound_by}
 
 module _ (slc : Slc) (s : Seen) (n : ℕ) (log : List ℕ) where
-  pub table_unsound : not s.sound ≡ true → false ≡ sound_by slc s n log
-  unfolding sound_by
-  table_unsound t = rw (not-true s.sound t)
-
-  module _ (h : not s.sound ≡ false) where
-    pub data_unsound : n < s.total → false ≡ sound_by slc s n log
-    unfolding sound_by
-    data_unsound l = rw (not-false s.sound h, lt-leb s.total n l)
-
-    module _ (l : s.total ≤ n) (ok : Bool) (e : ok ≡ (leb slc.type_len 11 && good_text (take slc.type_len slc.type_text))) where
-      pub text_unsound : not ok ≡ true → false ≡ sound_by slc s n log
-      unfolding sound_by
-      text_unsound t = rw (not-false s.sound h, le-leb s.total n l, ← e, not-true ok t)
-
-      pub log_told : (r : Bool) → not ok ≡ false → r ≡ (holds slc.log_left (drop slc.log_at log) && good_log (entries slc.log_left (drop slc.log_at log))) → r ≡ sound_by slc s n log
-      unfolding sound_by good_log_by
-      log_told r t f = rw (not-false s.sound h, le-leb s.total n l, ← e, not-false ok t) f
-
   pub log_good : sound_by slc s n log ≡ true → good_log_by slc log ≡ true
   unfolding sound_by
   log_good h = and_r (s.sound && leb s.total n && (leb slc.type_len 11 && good_text (take slc.type_len slc.type_text))) (good_log_by slc log) h

@@ -1,10 +1,11 @@
 -- The type text: its largest byte tells whether each is below 128.
+use Rattle.std.specs.List.{list_all}
 use Prim.Native.Nat.{ℕ, zero, suc, ◌+◌, ◌≤◌, ◌<◌, max}
-use mathlib.Core.Path.{◌≡◌, refl, sym, ◌∙◌}
+use mathlib.Core.Path.{◌≡◌, refl, sym, ap, ◌∙◌}
 use mathlib.Core.Bool.{Bool, true, false, ◌&&◌}
 use mathlib.Core.List.{List, [], ◌∷◌, map}
 use native.Mathlib.Omega.{arith}
-use borrow.Author.Tests.{ltb-true, lt-ltb, le-ltb, le-leb, lt-leb}
+use borrow.Author.Tests.{ltb-true, lt-ltb, le-leb, lt-leb}
 use lib.Dec.{leb, ltb}
 use lib.ListN.{length, get_or, take, drop, length-take, length-map, drop_of_length-le}
 use lib.Seq.{length-take-le}
@@ -12,6 +13,11 @@ use Rattle.base.proofs.Parts.{drop_next}
 use Rattle.processor_spec.specs.State.{every, good_text}
 use Rattle.processor_spec.proofs.Tests.{and_l, and_r, and_both}
 use Rattle.processor_soundness.specs.Tests.{largest_from, largest, small}
+
+every_is : {A : Type 0} (p : A → Bool) (s : List A) → every p s ≡ list_all p s
+unfolding every
+every_is p [] = refl
+every_is p (x ∷ s) = ap (λ (b : Bool). p x && b) (every_is p s)
 
 pub unmapped : {X Y : Type 0} (f : X → Y) (l : List X) (n : ℕ) → length (map f l) ≡ n → length l ≡ n
 unmapped f l n e = sym (length-map l f) ∙ e
@@ -36,7 +42,7 @@ both_small n b t =
     (lt-ltb n 128 (omega arith), lt-ltb b 128 (omega arith))
 
 from_small : (n : ℕ) (s : List ℕ) → ltb (largest_from n s) 128 ≡ true → (ltb n 128 ≡ true) × (small s ≡ true)
-unfolding largest_from small every
+unfolding largest_from small
 from_small n [] t = (t, refl)
 from_small n (b ∷ s) t =
     let r : (ltb (max n b) 128 ≡ true) × (small s ≡ true) = from_small (max n b) s t in
@@ -44,24 +50,10 @@ from_small n (b ∷ s) t =
     (p.0, and_both p.1 r.1)
 
 small_part : (k : ℕ) (s : List ℕ) → small s ≡ true → small (take k s) ≡ true
-unfolding small every
+unfolding small
 small_part zero s t = refl
 small_part (suc k) [] t = refl
 small_part (suc k) (b ∷ s) t = and_both {a = ltb b 128} (and_l (ltb b 128) _ t) (small_part k s (and_r (ltb b 128) _ t))
-
--- ---- each byte below 128
-module _ (s : List ℕ) (i : ℕ) where
-  pub small_next : i < length s → get_or s i 0 < 128 → small (drop (i + 1) s) ≡ small (drop i s)
-  unfolding small every
-  small_next h l = rw (drop_next s i h, lt-ltb (get_or s i 0) 128 l)
-
-  pub small_stop : i < length s → 128 ≤ get_or s i 0 → small (drop i s) ≡ small s → false ≡ small s
-  unfolding small every
-  small_stop h l e = let x : small (drop i s) ≡ false = rw (drop_next s i h, le-ltb (get_or s i 0) 128 l) in sym x ∙ e
-
-  pub small_last : length s ≤ i → small (drop i s) ≡ small s → true ≡ small s
-  unfolding small every
-  small_last h e = let x : small (drop i s) ≡ true = rw (drop_of_length-le s h) in sym x ∙ e
 
 -- ---- at most 11 bytes, each below 128
 module _ (text : List ℕ) (len : ℕ) where
@@ -72,7 +64,7 @@ module _ (text : List ℕ) (len : ℕ) where
   unfolding good_text small
   short h =
       let l : length (take len text) ≤ 11 = simp length-take (omega arith) in
-      rw (le-leb len 11 h, le-leb (length (take len text)) 11 l)
+      rw (le-leb len 11 h, le-leb (length (take len text)) 11 l, every_is)
 
   pub text_good : (most : ℕ) → len ≤ 11 → most ≡ largest text → most < 128 → true ≡ (leb len 11 && good_text (take len text))
   unfolding largest

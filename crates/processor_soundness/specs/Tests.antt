@@ -1,6 +1,6 @@
 -- The tests of the type text and of the datalog, as they are made.
-use Rattle.std.specs.Prelude.{ℕ, max, Bool, ◌&&◌, cond, List, [], ◌∷◌, leb, ltb, length}
-use Rattle.processor_spec.specs.State.{every}
+use Rattle.std.specs.Prelude.{ℕ, max, Bool, ◌&&◌, cond, List, [], ◌∷◌, leb, ltb, length, Option, None, Some}
+use Rattle.std.specs.List.{list_all}
 use Rattle.processor_spec.specs.Plain.{entry_room}
 
 -- the largest of a number and some bytes
@@ -13,8 +13,8 @@ largest s = largest_from 0 s
 
 -- "each below 128", of the type text (question 13)
 unfoldable pub small : List ℕ → Bool
-small s = every (λ (b : ℕ). ltb b 128) s
+small s = list_all (λ (b : ℕ). ltb b 128) s
 
--- the room of the first entry of a datalog, 0 where there is no whole one of at most 255 bytes
-unfoldable pub good_room : List ℕ → ℕ
-good_room log = cond (leb 2 (length log) && leb (entry_room log) (length log) && leb (entry_room log) 257) (entry_room log) 0
+-- the room of the first entry of a datalog, where there is a whole one of at most 255 bytes
+unfoldable pub good_room : List ℕ → Option ℕ
+good_room log = cond (leb 2 (length log) && leb (entry_room log) (length log) && leb (entry_room log) 257) (Some (entry_room log)) None

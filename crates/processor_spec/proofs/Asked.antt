@@ -1,14 +1,13 @@
 -- What a command asks of the data memory lies in the file that stands in its file place.
+use Rattle.std.specs.Prelude.{Option, None, Some}
 use Prim.Native.Nat.{ℕ, ◌+◌, ◌*◌}
 use mathlib.Core.Path.{◌≡◌, refl, sym, subst, ◌∙◌}
 use mathlib.Core.List.{List, [], ◌∷◌}
-use mathlib.Core.Option.{Option, none, some}
 use mathlib.Core.Bool.{Bool, true, false, ◌&&◌, cond, false≢true}
 use borrow.Author.Tests.{eqb-true, leb-true}
 use lib.Dec.{eqb, leb}
 use lib.ListN.{length}
 use lib.Seq.{length-take-le}
-use Rattle.parser_spec.specs.Parts.{then}
 use Rattle.parser_spec.proofs.Held.{Holds, nothing, that, weaker, and_next, and_any}
 use Rattle.directory_sys0.specs.declared.Sys0Info.{Sys0Info}
 use Rattle.directory_sys0.specs.Families.{sys0}
@@ -42,13 +41,13 @@ values_held : (fn size : ℕ) (s : List ℕ) → Holds (λ (vs r : List ℕ). wr
 unfolding value_bytes
 values_held fn size s = go (writes fn) refl
   where
-    go : (b : Bool) → writes fn ≡ b → Holds (λ (vs r : List ℕ). writes fn ≡ true → length vs ≡ size) (cond b (several size) (λ (r : List ℕ). some ([], r)) s)
+    go : (b : Bool) → writes fn ≡ b → Holds (λ (vs r : List ℕ). writes fn ≡ true → length vs ≡ size) (cond b (several size) (λ (r : List ℕ). Some ([], r)) s)
     go true e = weaker (λ vs r l. λ _. l) (several_held size s)
     go false e = that (λ t. absurd (false≢true (sym e ∙ t)))
 
-place_held : (o : Option ℕ) (s : List ℕ) → Holds (λ (at : ℕ) (r : List ℕ). o ≡ some at) (place o s)
-place_held none s = nothing
-place_held (some at) s = that refl
+place_held : (o : Option ℕ) (s : List ℕ) → Holds (λ (at : ℕ) (r : List ℕ). o ≡ Some at) (place o s)
+place_held None s = nothing
+place_held (Some at) s = that refl
 
 module _ (P : ℕ → Type 0) (rs : List FileRecord) where
   file_asked : (fn : ℕ) (h : Header) (p : List ℕ) → P h.file → Holds (λ (q : Ask) (r : List ℕ). Asked P rs q) (ask_file rs fn h p)
@@ -80,12 +79,12 @@ module _ (P : ℕ → Type 0) (rs : List FileRecord) where
 
   -- P holds of the file place, unless the directory or the datalog is asked for
   abbrev pub Allows : ℕ → Option (Header × List ℕ) → Type 0
-  Allows fn o = (x : Header × List ℕ) → o ≡ some x → asks_directory fn x.0.file ≡ false → asks_datalog fn x.0.code ≡ false → P x.0.file
+  Allows fn o = (x : Header × List ℕ) → o ≡ Some x → asks_directory fn x.0.file ≡ false → asks_datalog fn x.0.code ≡ false → P x.0.file
 
   function_asked : (text : List ℕ) (fn : ℕ) (o : Option (Header × List ℕ)) → Allows fn o → Asked P rs (ask_function rs text fn o)
   unfolding bad illegal
-  function_asked text fn none ok = tt
-  function_asked text fn (some x) ok =
+  function_asked text fn None ok = tt
+  function_asked text fn (Some x) ok =
       cases (Asked P rs) (known_function fn) _ _
       (λ _. cases (Asked P rs) (asks_directory fn x.0.file) _ _
       (λ _. directory_asked (sys0 text) x.0)

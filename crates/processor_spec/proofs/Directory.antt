@@ -1,10 +1,10 @@
 -- The directory has at most 2,793 bytes, and a row for every file.
+use Rattle.std.specs.Prelude.{Option, None, Some}
 use Prim.Native.Nat.{ℕ, zero, suc, ◌+◌, ◌*◌, ◌≤◌}
 use Prim.Native.String.{String}
 use mathlib.Core.Path.{◌≡◌, refl, sym, subst}
 use mathlib.Core.Bool.{Bool, true, false, cond}
 use mathlib.Core.List.{List, [], ◌∷◌}
-use mathlib.Core.Option.{Option, none, some}
 use native.Mathlib.Nat.{mul-le-mul_right}
 use native.Mathlib.Omega.{arith}
 use borrow.Author.Tests.{leb-true, eqb-true}
@@ -26,8 +26,8 @@ unfolding fitted
 fitted_length n fill s = rw (length-append, length-take, length-replicate) (omega arith)
 
 row_length : (size : ℕ) (o : Option FileRecord) → length (file_row size o) ≡ size
-row_length size none = fitted_length size 0 _
-row_length size (some r) = fitted_length size 0 _
+row_length size None = fitted_length size 0 _
+row_length size (Some r) = fitted_length size 0 _
 
 rows_length : (rs : List FileRecord) (size n count : ℕ) → length (file_rows rs size n count) ≡ count * size
 unfolding file_rows
@@ -75,7 +75,7 @@ last_from n (r ∷ rs) h =
     let b : r.number ≤ last_number r.number rs = last_from r.number rs (and_r (leb (suc n) r.number) _ h) in
     omega arith
 
-listed_from : (k m n : ℕ) (rs : List FileRecord) (r : FileRecord) → ascend k rs ≡ true → find n rs ≡ some r → n ≤ last_number m rs
+listed_from : (k m n : ℕ) (rs : List FileRecord) (r : FileRecord) → ascend k rs ≡ true → find n rs ≡ Some r → n ≤ last_number m rs
 unfolding last_number ascend find
 listed_from k m n [] r h e = no_some e
 listed_from k m n (x ∷ xs) r h e = go (eqb x.number n) refl e (λ f. listed_from (suc x.number) x.number n xs r hs f)
@@ -83,10 +83,10 @@ listed_from k m n (x ∷ xs) r h e = go (eqb x.number n) refl e (λ f. listed_fr
     hs : ascend (suc x.number) xs ≡ true
     hs = and_r (leb k x.number) _ h
 
-    go : (b : Bool) → eqb x.number n ≡ b → cond b (some x) (find n xs) ≡ some r → (find n xs ≡ some r → n ≤ last_number x.number xs) → n ≤ last_number x.number xs
+    go : (b : Bool) → eqb x.number n ≡ b → cond b (Some x) (find n xs) ≡ Some r → (find n xs ≡ Some r → n ≤ last_number x.number xs) → n ≤ last_number x.number xs
     go true t e ih = subst (λ (j : ℕ). j ≤ last_number x.number xs) (eqb-true x.number n t) (last_from x.number xs hs)
     go false t e ih = ih e
 
-pub listed : (rs : List FileRecord) (n : ℕ) (r : FileRecord) → good_table rs ≡ true → find n rs ≡ some r → n ≤ last_number 0 rs
+pub listed : (rs : List FileRecord) (n : ℕ) (r : FileRecord) → good_table rs ≡ true → find n rs ≡ Some r → n ≤ last_number 0 rs
 unfolding good_table
 listed rs n r g e = listed_from 0 0 n rs r (search (and_l, and_r)) e

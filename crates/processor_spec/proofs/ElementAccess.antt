@@ -1,15 +1,18 @@
 -- Setting an element writes inside that element: a sound state stays sound, and every other file keeps its bytes.
+use Rattle.std.specs.Prelude.{Option, None, Some}
+use Rattle.std.specs.Option.{option_map}
 use Prim.Native.Nat.{ℕ, ◌+◌, ◌*◌, ◌≤◌}
 use mathlib.Core.Path.{◌≡◌, refl, sym, ap, subst}
 use mathlib.Core.Bool.{Bool, true, false, ◌&&◌, cond}
 use mathlib.Core.List.{List}
-use mathlib.Core.Option.{Option, none, some}
 use native.Mathlib.Omega.{arith}
 use borrow.Author.Tests.{ltb-true}
 use lib.Dec.{leb, ltb, lit≤}
 use lib.IntN.{ℤ}
 use lib.ListN.{length, length-append}
 use Rattle.base.specs.Numbers.{low_first}
+use Rattle.base.specs.declared.refusal.Refusal.{Refusal}
+use Rattle.base.specs.declared.refusal.Refusal.TheVariants.{Unsound}
 use Rattle.base.specs.Outcome.{Outcome, refused, lays}
 use Rattle.base.proofs.Numbers.{low_length}
 use Rattle.element_spec.specs.declared.Value.{Value}
@@ -49,12 +52,12 @@ line_in text = cases (In 84) (leb (length text) 82) _ _ (λ _. rw (string_length
 
 named_in : (t : FileType) (name old : List ℕ) (z : ℤ) → In 6 (named_of t name old z)
 unfolding of_field
-named_in t name old z = go (place 0 (field_names t) name)
+named_in t name old z = go (place (field_names t) name)
   where
-    go : (o : Option ℕ) → In 6 (field_of (field_at o) z old)
-    go none = tt
-    go (some i) =
-        cases (λ f. In 6 (field_of f z old)) (ltb i 2) _ _
+    go : (o : Option ℕ) → In 6 (field_of (option_map field_at o) z old)
+    go None = tt
+    go (Some i) =
+        cases (λ f. In 6 (field_of (Some f) z old)) (ltb i 2) _ _
         (λ l. whole_in (2 + 2 * i) 2 0xFFFF 32768 32767 6 (omega (arith, ltb-true i 2 l)) z)
         (λ _. low_in 0 2 _ 6 (lit≤ tt))
 
@@ -113,7 +116,7 @@ unfolding encoded
 encoded_in_lem t v text old = cases (In (row t).size) (ltb (length old) (row t).size) _ _ (λ _. tt) (λ _. type_in t v text old)
 
 module _ (s : State) (t : FileType) (file element : ℕ) (v : Value) (text : List ℕ) (at : ℕ) (bs : List ℕ) (done : set_of s t file element v text ≡ lays at bs) where
-  no_write : {X : Type 0} {n : ℕ} → refused n ≡ lays at bs → X
+  no_write : {X : Type 0} {n : Refusal} → refused n ≡ lays at bs → X
   no_write e = let z : ◌≡◌ {A = ℕ} 0 1 = cc in absurd (omega arith)
 
   -- what is set lies in the file, of a sound state
@@ -121,7 +124,7 @@ module _ (s : State) (t : FileType) (file element : ℕ) (v : Value) (text : Lis
   unfolding set_of
   set_inside = go (sound s) refl (element_at s t file element) refl done
     where
-      laid : (p : ℕ) → element_at s t file element ≡ some p → (o : Outcome) → In (row t).size o → behind p o ≡ lays at bs → Inside s.records file at (length bs)
+      laid : (p : ℕ) → element_at s t file element ≡ Some p → (o : Outcome) → In (row t).size o → behind p o ≡ lays at bs → Inside s.records file at (length bs)
       laid p e (refused n) h q = no_write q
       laid p e (lays place cs) h q =
           let i : Inside s.records file p (row t).size = located s.records file (row t).code element 0 (row t).size p (unfold element_at in e) in
@@ -129,11 +132,11 @@ module _ (s : State) (t : FileType) (file element : ℕ) (v : Value) (text : Lis
           let ec : length cs ≡ length bs = let x : cs ≡ bs = cc in ap length x in
           record { file = i.file; found = i.found; from = omega (arith, i.from); upto = omega (arith, i.upto) }
 
-      go : (b : Bool) → sound s ≡ b → (o : Option ℕ) → element_at s t file element ≡ o → cond b (set_at o t v text s.memory) (refused 16) ≡ lays at bs
+      go : (b : Bool) → sound s ≡ b → (o : Option ℕ) → element_at s t file element ≡ o → cond b (set_at o t v text s.memory) (refused Unsound) ≡ lays at bs
           → (sound s ≡ true) × Inside s.records file at (length bs)
       go false h o e q = no_write q
-      go true h none e q = no_write q
-      go true h (some p) e q = (h, laid p e (encoded t v text (element_bytes t s.memory p)) (encoded_in_lem t v text (element_bytes t s.memory p)) q)
+      go true h None e q = no_write q
+      go true h (Some p) e q = (h, laid p e (encoded t v text (element_bytes t s.memory p)) (encoded_in_lem t v text (element_bytes t s.memory p)) q)
 
   pub set_sound : sound (after s (step.lays at bs)) ≡ true
   set_sound = write_sound s set_inside.0 file at bs set_inside.1

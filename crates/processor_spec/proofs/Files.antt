@@ -1,8 +1,8 @@
 -- A write inside one file leaves every other file's bytes, and a sound state; an entry that leaves the datalog leaves a sound state too.
+use Rattle.std.specs.Prelude.{Option, None, Some}
 use Prim.Native.Nat.{ℕ, suc, ◌+◌, ◌-◌, ◌≤◌}
 use mathlib.Core.Path.{◌≡◌, refl, sym, ap, ◌∙◌}
 use mathlib.Core.List.{List, [], ◌∷◌}
-use mathlib.Core.Option.{Option, none, some}
 use mathlib.Core.Bool.{Bool, true, false, ◌&&◌, cond}
 use mathlib.Core.Logic.{◌⊎◌, inl, inr}
 use native.Mathlib.Omega.{arith}
@@ -26,21 +26,21 @@ use Rattle.processor_spec.proofs.Tests.{and_l, and_r, and_both}
 -- so many bytes from a place on lie in the file with this number
 pub record Inside (rs : List FileRecord) (n at size : ℕ) : Type 0 where
   pub file : FileRecord
-  pub found : find n rs ≡ some file
+  pub found : find n rs ≡ Some file
   pub from : file.start ≤ at
   pub upto : at + size ≤ file.start + file.length
 
 -- what is located lies in its file
-pub located : (rs : List FileRecord) (n code element sub size at : ℕ) → locate rs n code element sub size ≡ some at → Inside rs n at size
+pub located : (rs : List FileRecord) (n code element sub size at : ℕ) → locate rs n code element sub size ≡ Some at → Inside rs n at size
 unfolding locate
 located rs n code element sub size at e = go (find n rs) refl e
   where
-    go : (o : Option FileRecord) → find n rs ≡ o → place_in o code element sub size ≡ some at → Inside rs n at size
-    go none f e = no_some e
-    go (some r) f e = decide (eqb r.code code && leb (offset r element sub + size) r.length) refl e
+    go : (o : Option FileRecord) → find n rs ≡ o → place_in o code element sub size ≡ Some at → Inside rs n at size
+    go None f e = no_some e
+    go (Some r) f e = decide (eqb r.code code && leb (offset r element sub + size) r.length) refl e
       where
         decide : (b : Bool) → (eqb r.code code && leb (offset r element sub + size) r.length) ≡ b
-            → cond b (some (r.start + offset r element sub)) none ≡ some at → Inside rs n at size
+            → cond b (Some (r.start + offset r element sub)) None ≡ Some at → Inside rs n at size
         decide false t e = no_some e
         decide true t e =
             let p : r.start + offset r element sub ≡ at = cc in
@@ -61,7 +61,7 @@ unfolding sound
 sound_fits s h = leb-true (total s.records) (length s.memory) (search (and_l, and_r))
 
 module _ (s : State) (h : sound s ≡ true) (n : ℕ) where
-  file_fits : (r : FileRecord) → find n s.records ≡ some r → r.start + r.length ≤ length s.memory
+  file_fits : (r : FileRecord) → find n s.records ≡ Some r → r.start + r.length ≤ length s.memory
   file_fits r f = let w : Lies 0 (0 + total s.records) r = lies 0 n s.records r (sound_ends s h) f in omega (arith, w.upto, sound_fits s h)
 
   pub inside_fits : {at size : ℕ} → Inside s.records n at size → at + size ≤ length s.memory
@@ -97,8 +97,8 @@ module _ (s : State) (h : sound s ≡ true) (n : ℕ) where
     write_other k ne = go (find k s.records) refl
       where
         go : (o : Option FileRecord) → find k s.records ≡ o → bytes_of (put s.memory at bs) o ≡ bytes_of s.memory o
-        go none f = refl
-        go (some q) f = apart_stays s.memory at bs (inside_fits i) q.start q.length (sides (apart 0 n k s.records i.file q (sound_ends s h) i.found f ne))
+        go None f = refl
+        go (Some q) f = apart_stays s.memory at bs (inside_fits i) q.start q.length (sides (apart 0 n k s.records i.file q (sound_ends s h) i.found f ne))
           where
             sides : Apart i.file q → (q.start + q.length ≤ at) ⊎ (at + length bs ≤ q.start)
             sides (inl l) = inr (omega (arith, i.upto))

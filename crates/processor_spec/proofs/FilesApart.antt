@@ -1,8 +1,8 @@
 -- The file table of a sound state: a file's bytes lie in the data memory, and those of two files lie apart.
+use Rattle.std.specs.Prelude.{Some}
 use Prim.Native.Nat.{ℕ, ◌+◌, ◌≤◌}
 use mathlib.Core.Path.{◌≡◌, refl, sym, ap, subst, ◌∙◌}
 use mathlib.Core.List.{List, [], ◌∷◌, map}
-use mathlib.Core.Option.{some}
 use mathlib.Core.Bool.{Bool, true, false, cond}
 use mathlib.Core.Logic.{◌⊎◌, inl, inr}
 use native.Mathlib.Omega.{arith}
@@ -36,7 +36,7 @@ pub record Lies (at end : ℕ) (r : FileRecord) : Type 0 where
   pub from : at ≤ r.start
   pub upto : r.start + r.length ≤ end
 
-pub lies : (at n : ℕ) (rs : List FileRecord) (r : FileRecord) → end_to_end at rs ≡ true → find n rs ≡ some r → Lies at (at + total rs) r
+pub lies : (at n : ℕ) (rs : List FileRecord) (r : FileRecord) → end_to_end at rs ≡ true → find n rs ≡ Some r → Lies at (at + total rs) r
 unfolding end_to_end find total
 lies at n [] r h e = no_some e
 lies at n (x ∷ xs) r h e = go (eqb x.number n) e (λ f. lies (at + x.length) n xs r (and_r (eqb x.start at) _ h) f)
@@ -44,7 +44,7 @@ lies at n (x ∷ xs) r h e = go (eqb x.number n) e (λ f. lies (at + x.length) n
     sx : x.start ≡ at
     sx = eqb-true x.start at (and_l _ _ h)
 
-    go : (b : Bool) → cond b (some x) (find n xs) ≡ some r → (find n xs ≡ some r → Lies (at + x.length) (at + x.length + total xs) r) → Lies at (at + (x.length + total xs)) r
+    go : (b : Bool) → cond b (Some x) (find n xs) ≡ Some r → (find n xs ≡ Some r → Lies (at + x.length) (at + x.length + total xs) r) → Lies at (at + (x.length + total xs)) r
     go true e ih =
         let er : x ≡ r = cc in
         subst (λ (q : FileRecord). Lies at (at + (x.length + total xs)) q) er (record { from = omega (arith, sx); upto = omega (arith, sx) })
@@ -53,7 +53,7 @@ lies at n (x ∷ xs) r h e = go (eqb x.number n) e (λ f. lies (at + x.length) n
 abbrev pub Apart : FileRecord → FileRecord → Type 0
 Apart r q = (r.start + r.length ≤ q.start) ⊎ (q.start + q.length ≤ r.start)
 
-pub apart : (at n k : ℕ) (rs : List FileRecord) (r q : FileRecord) → end_to_end at rs ≡ true → find n rs ≡ some r → find k rs ≡ some q → (n ≡ k → ⊥) → Apart r q
+pub apart : (at n k : ℕ) (rs : List FileRecord) (r q : FileRecord) → end_to_end at rs ≡ true → find n rs ≡ Some r → find k rs ≡ Some q → (n ≡ k → ⊥) → Apart r q
 unfolding end_to_end find
 apart at n k [] r q h e f ne = no_some e
 apart at n k (x ∷ xs) r q h e f ne =
@@ -66,8 +66,8 @@ apart at n k (x ∷ xs) r q h e f ne =
     hs = and_r (eqb x.start at) _ h
 
     go : (b : Bool) → eqb x.number n ≡ b → (c : Bool) → eqb x.number k ≡ c
-        → cond b (some x) (find n xs) ≡ some r → cond c (some x) (find k xs) ≡ some q
-        → (find n xs ≡ some r → find k xs ≡ some q → Apart r q) → Apart r q
+        → cond b (Some x) (find n xs) ≡ Some r → cond c (Some x) (find k xs) ≡ Some q
+        → (find n xs ≡ Some r → find k xs ≡ Some q → Apart r q) → Apart r q
     go true eb true ec e f ih = absurd (ne (sym (eqb-true _ _ eb) ∙ eqb-true _ _ ec))
     go true eb false ec e f ih =
         let er : x ≡ r = cc in

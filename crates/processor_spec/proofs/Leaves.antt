@@ -1,13 +1,11 @@
 -- What a command, or a building, that is turned away leaves of all that was lent: everything.
-use Prim.Native.Nat.{ℕ}
+use Rattle.std.specs.Prelude.{ℕ, Some, Ok, Err}
 use mathlib.Core.Path.{◌≡◌, ap}
 use mathlib.Core.List.{List}
-use mathlib.Core.Option.{some}
 use lib.ListN.{length}
+use Rattle.base.specs.declared.refusal.Refusal.{Refusal}
 use Rattle.base.specs.Put.{put}
-use Rattle.processor_spec.specs.declared.Answered.TheVariants as answered
 use Rattle.processor_spec.specs.declared.FileRecord.{FileRecord}
-use Rattle.processor_spec.specs.declared.Made.TheVariants as made
 use Rattle.processor_spec.specs.declared.Slc.{Slc}
 use Rattle.processor_spec.specs.Build.{Plan, build_refusal, no_slc, Raised, raised, new_of}
 use Rattle.processor_spec.specs.Frame.{status}
@@ -21,19 +19,19 @@ module _ (slc : Slc) (table : List FileRecord) (memory log command reply : List 
   said = step (state_of slc table memory log) command (length reply)
 
   -- "A numbered refusal .. changes no lent memory."
-  pub refusal_leaves : (n : ℕ) → said.answer ≡ refused n → pccc_of slc table memory log command reply ≡ left (record { slc = slc; answered = answered.Refused n }) memory reply
+  pub refusal_leaves : (n : Refusal) → said.answer ≡ refused n → pccc_of slc table memory log command reply ≡ left (record { slc = slc; answered = Err n }) memory reply
   unfolding pccc_of answered_of reply_left memory_left slc_left
   refusal_leaves n e = rw (e, refusal_keeps (state_of slc table memory log) command (length reply) n e)
 
   -- "Any status but 0 changes no file and no datalog."
   pub status_leaves : (bs : List ℕ) → said.answer ≡ replied bs → (status command bs ≡ 0 → ⊥)
-      → pccc_of slc table memory log command reply ≡ left (record { slc = slc; answered = answered.Reply (length bs) }) memory (put reply 0 bs)
+      → pccc_of slc table memory log command reply ≡ left (record { slc = slc; answered = Ok (length bs) }) memory (put reply 0 bs)
   unfolding pccc_of answered_of reply_left memory_left slc_left
   status_leaves bs e ne = rw (e, status_keeps (state_of slc table memory log) command (length reply) bs e ne)
 
 -- Building that is refused leaves the table and the data, and gives a processor without files, to which every call says 16.
-module _ (p : Plan) (table : List FileRecord) (memory : List ℕ) (n : ℕ) (e : build_refusal p (length table) (length memory) ≡ some n) where
-  pub building_leaves : new_of p table memory ≡ raised (record { slc = no_slc; made = made.Refused n }) table memory
+module _ (p : Plan) (table : List FileRecord) (memory : List ℕ) (n : Refusal) (e : build_refusal p (length table) (length memory) ≡ Some n) where
+  pub building_leaves : new_of p table memory ≡ raised (record { slc = no_slc; made = Err n }) table memory
   unfolding new_of
   building_leaves = rw e
 

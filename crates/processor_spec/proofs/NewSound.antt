@@ -1,9 +1,9 @@
 -- Building gives a sound state, with the files that were wanted.
+use Rattle.std.specs.Prelude.{Option, None, Some, Ok}
 use Prim.Native.Nat.{ℕ, zero, suc, ◌+◌, ◌-◌, ◌*◌, ◌%◌, ◌≤◌, ◌<◌}
 use mathlib.Core.Path.{◌≡◌, refl, sym, ap, subst, ◌∙◌}
 use mathlib.Core.Bool.{Bool, true, false, not, ◌&&◌, cond}
 use mathlib.Core.List.{List, [], ◌∷◌, ◌++◌}
-use mathlib.Core.Option.{Option, none, some}
 use mathlib.Core.Logic.{◌⊎◌, inl, inr}
 use native.Mathlib.Nat.{mul-mod_left, eq-or-lt_of_le}
 use native.Mathlib.Omega.{arith}
@@ -11,13 +11,14 @@ use borrow.Author.Tests.{eqb-true, eq-eqb, ne_eqb, leb-true, le-leb, lt-ltb}
 use lib.Dec.{leb, ltb, eqb}
 use lib.ListN.{length, take, drop, replicate, length-append, length-drop, length-replicate}
 use lib.Seq.{take_at, take_all}
+use Rattle.base.specs.declared.refusal.Refusal.{Refusal}
+use Rattle.base.specs.declared.refusal.Refusal.TheVariants.{UnknownFileType, UnusableFileNumber, UnusableTypeText, FilesBeyondRoom, UnusableDatalog}
 use Rattle.base.specs.Put.{put}
 use Rattle.base.proofs.Put.{put_length}
 use Rattle.parser_spec.proofs.Held.{no_some}
 use Rattle.element_text.specs.Text.{fitted}
 use Rattle.file_type.specs.Table.{element_size}
 use Rattle.processor_spec.specs.declared.FileRecord.{FileRecord}
-use Rattle.processor_spec.specs.declared.Made.TheVariants as made
 use Rattle.processor_spec.specs.Build.{Wanted, wanted, defaults, or_defaults, wanted_with, has, file_refusal, record_at, lay, records_from, records_of, Plan, planned, fits, log_fits, or_then, build_refusal, slc_of, raise, new_of}
 use Rattle.processor_spec.specs.Files.{shape, find}
 use Rattle.processor_spec.specs.Plain.{entries, holds, within, held_state, state_of}
@@ -27,12 +28,12 @@ use Rattle.processor_spec.proofs.Tests.{and_l, and_r, and_both}
 
 -- ---- the file that is found
 
-wanted_number : (n : ℕ) (ws : List Wanted) (w : Wanted) → wanted_with n ws ≡ some w → w.number ≡ n
+wanted_number : (n : ℕ) (ws : List Wanted) (w : Wanted) → wanted_with n ws ≡ Some w → w.number ≡ n
 unfolding wanted_with
 wanted_number n [] w e = no_some e
 wanted_number n (v ∷ vs) w e = go (eqb v.number n) refl e (wanted_number n vs w)
   where
-    go : (b : Bool) → eqb v.number n ≡ b → cond b (some v) (wanted_with n vs) ≡ some w → (wanted_with n vs ≡ some w → w.number ≡ n) → w.number ≡ n
+    go : (b : Bool) → eqb v.number n ≡ b → cond b (Some v) (wanted_with n vs) ≡ Some w → (wanted_with n vs ≡ Some w → w.number ≡ n) → w.number ≡ n
     go true t e ih = let p : v ≡ w = cc in ap (λ (x : Wanted). x.number) (sym p) ∙ eqb-true v.number n t
     go false t e ih = ih e
 
@@ -42,22 +43,22 @@ record Accepted (w : Wanted) : Type 0 where
   small : w.number ≤ 255
 
 module _ (seen : List ℕ) (w : Wanted) (ws : List Wanted) where
-  first_accepted : file_refusal seen (w ∷ ws) ≡ none → Accepted w × (file_refusal (w.number ∷ seen) ws ≡ none)
+  first_accepted : file_refusal seen (w ∷ ws) ≡ None → Accepted w × (file_refusal (w.number ∷ seen) ws ≡ None)
   unfolding file_refusal
   first_accepted e = go (known_code w.code) refl (leb w.number 255 && not (has w.number seen)) refl e
     where
       go : (b : Bool) → known_code w.code ≡ b → (d : Bool) → (leb w.number 255 && not (has w.number seen)) ≡ d
-          → cond b (cond d (file_refusal (w.number ∷ seen) ws) (some 12)) (some 11) ≡ none → Accepted w × (file_refusal (w.number ∷ seen) ws ≡ none)
+          → cond b (cond d (file_refusal (w.number ∷ seen) ws) (Some UnusableFileNumber)) (Some UnknownFileType) ≡ None → Accepted w × (file_refusal (w.number ∷ seen) ws ≡ None)
       go true k true t e = (record { known = k; small = leb-true w.number 255 (and_l _ (not (has w.number seen)) t) }, e)
       go true k false t e = no_some (sym e)
       go false k d t e = no_some (sym e)
 
-accepted : (seen : List ℕ) (n : ℕ) (ws : List Wanted) (w : Wanted) → file_refusal seen ws ≡ none → wanted_with n ws ≡ some w → Accepted w
+accepted : (seen : List ℕ) (n : ℕ) (ws : List Wanted) (w : Wanted) → file_refusal seen ws ≡ None → wanted_with n ws ≡ Some w → Accepted w
 unfolding wanted_with
 accepted seen n [] w r e = no_some e
 accepted seen n (v ∷ vs) w r e = go (eqb v.number n) e (accepted (v.number ∷ seen) n vs w (first_accepted seen v vs r).1)
   where
-    go : (b : Bool) → cond b (some v) (wanted_with n vs) ≡ some w → (wanted_with n vs ≡ some w → Accepted w) → Accepted w
+    go : (b : Bool) → cond b (Some v) (wanted_with n vs) ≡ Some w → (wanted_with n vs ≡ Some w → Accepted w) → Accepted w
     go true e ih = let p : v ≡ w = cc in subst Accepted p (first_accepted seen v vs r).0
     go false e ih = ih e
 
@@ -92,7 +93,7 @@ one_fine n at w rs q a f = record {
   ends = and_both (eq-eqb at at refl) f.ends;
 }
 
-module _ (ws : List Wanted) (r : file_refusal [] ws ≡ none) where
+module _ (ws : List Wanted) (r : file_refusal [] ws ≡ None) where
   fine : (k n at : ℕ) → Fine n at (records_from k n at ws)
   unfolding records_from
   fine zero n at = record { good = unfold every in refl; ascending = unfold ascend in refl; ends = unfold end_to_end in refl }
@@ -100,20 +101,20 @@ module _ (ws : List Wanted) (r : file_refusal [] ws ≡ none) where
     where
       go : (o : Option Wanted) → wanted_with n ws ≡ o → ((next : ℕ) → Fine (suc n) next (records_from k (suc n) next ws))
           → Fine n at (lay at o (λ (next : ℕ). records_from k (suc n) next ws))
-      go none e ih = let f : Fine (suc n) at (records_from k (suc n) at ws) = ih at in record { good = f.good; ascending = ascend_lower n _ f.ascending; ends = f.ends }
-      go (some w) e ih = one_fine n at w _ (wanted_number n ws w e) (accepted [] n ws w r e) (ih (at + w.elements * element_size w.code))
+      go None e ih = let f : Fine (suc n) at (records_from k (suc n) at ws) = ih at in record { good = f.good; ascending = ascend_lower n _ f.ascending; ends = f.ends }
+      go (Some w) e ih = one_fine n at w _ (wanted_number n ws w e) (accepted [] n ws w r e) (ih (at + w.elements * element_size w.code))
 
 -- ---- each file that is wanted, and no other, has a record with its type and length
 
 abbrev pub wanted_shape : Option Wanted → Option (ℕ × ℕ × ℕ)
-wanted_shape none = none
-wanted_shape (some w) = some (w.number, w.code, w.elements * element_size w.code)
+wanted_shape None = None
+wanted_shape (Some w) = Some (w.number, w.code, w.elements * element_size w.code)
 
 abbrev pub found_shape : Option FileRecord → Option (ℕ × ℕ × ℕ)
-found_shape none = none
-found_shape (some r) = some (shape r)
+found_shape None = None
+found_shape (Some r) = Some (shape r)
 
-not_below : (m n : ℕ) (rs : List FileRecord) → m < n → ascend n rs ≡ true → find m rs ≡ none
+not_below : (m n : ℕ) (rs : List FileRecord) → m < n → ascend n rs ≡ true → find m rs ≡ None
 unfolding ascend find
 not_below m n [] l h = refl
 not_below m n (r ∷ rs) l h =
@@ -121,7 +122,7 @@ not_below m n (r ∷ rs) l h =
     let ne : r.number ≡ m → ⊥ = λ e. let z : suc m ≤ m = subst (λ (k : ℕ). suc m ≤ k) e (omega arith) in absurd (omega arith) in
     rw (ne_eqb r.number m ne) (not_below m (suc r.number) rs (omega arith) (and_r (leb n r.number) _ h))
 
-module _ (ws : List Wanted) (r : file_refusal [] ws ≡ none) where
+module _ (ws : List Wanted) (r : file_refusal [] ws ≡ None) where
   finds_from : (k n at m : ℕ) → n ≤ m → m < n + k → found_shape (find m (records_from k n at ws)) ≡ wanted_shape (wanted_with m ws)
   unfolding records_from shape find
   finds_from zero n at m l h = absurd (omega arith)
@@ -130,14 +131,14 @@ module _ (ws : List Wanted) (r : file_refusal [] ws ≡ none) where
       go : (o : Option Wanted) → wanted_with n ws ≡ o → (n ≡ m) ⊎ (n < m)
           → ((next : ℕ) → n < m → found_shape (find m (records_from k (suc n) next ws)) ≡ wanted_shape (wanted_with m ws))
           → found_shape (find m (lay at o (λ (next : ℕ). records_from k (suc n) next ws))) ≡ wanted_shape (wanted_with m ws)
-      go none e (inr g) ih = ih at g
-      go none e (inl q) ih =
+      go None e (inr g) ih = ih at g
+      go None e (inl q) ih =
           ap found_shape (not_below m (suc n) (records_from k (suc n) at ws) (omega arith) (fine ws r k (suc n) at).ascending)
           ∙ ap wanted_shape (sym e ∙ ap (λ (j : ℕ). wanted_with j ws) q)
-      go (some w) e (inr g) ih =
+      go (Some w) e (inr g) ih =
           let ne : w.number ≡ m → ⊥ = λ x. let z : suc n ≤ n = subst (λ (j : ℕ). suc n ≤ j) (sym x ∙ wanted_number n ws w e) g in absurd (omega arith) in
           rw (ne_eqb w.number m ne) (ih (at + w.elements * element_size w.code) g)
-      go (some w) e (inl q) ih =
+      go (Some w) e (inl q) ih =
           rw (eq-eqb w.number m (wanted_number n ws w e ∙ q)) (ap wanted_shape (sym e ∙ ap (λ (j : ℕ). wanted_with j ws) q))
 
   pub built_finds : (m : ℕ) → m ≤ 255 → found_shape (find m (records_of ws)) ≡ wanted_shape (wanted_with m ws)
@@ -146,20 +147,20 @@ module _ (ws : List Wanted) (r : file_refusal [] ws ≡ none) where
 
 -- ---- there is a file
 
-not_empty : (rs : List FileRecord) (m : ℕ) {x : ℕ × ℕ × ℕ} → found_shape (find m rs) ≡ some x → 0 < length rs
+not_empty : (rs : List FileRecord) (m : ℕ) {x : ℕ × ℕ × ℕ} → found_shape (find m rs) ≡ Some x → 0 < length rs
 unfolding find
 not_empty [] m e = no_some e
 not_empty (r ∷ rs) m e = omega arith
 
-first_wanted : (v : Wanted) (vs : List Wanted) → wanted_with v.number (v ∷ vs) ≡ some v
+first_wanted : (v : Wanted) (vs : List Wanted) → wanted_with v.number (v ∷ vs) ≡ Some v
 unfolding wanted_with
 first_wanted v vs = rw (eq-eqb v.number v.number refl)
 
-first_built : (w : Wanted) (ws : List Wanted) → file_refusal [] (w ∷ ws) ≡ none → 0 < length (records_of (w ∷ ws))
+first_built : (w : Wanted) (ws : List Wanted) → file_refusal [] (w ∷ ws) ≡ None → 0 < length (records_of (w ∷ ws))
 first_built w ws r =
     not_empty (records_of (w ∷ ws)) w.number (built_finds (w ∷ ws) r w.number (first_accepted [] w ws r).0.small ∙ ap wanted_shape (first_wanted w ws))
 
-some_file : (ws : List Wanted) → file_refusal [] (or_defaults ws) ≡ none → 0 < length (records_of (or_defaults ws))
+some_file : (ws : List Wanted) → file_refusal [] (or_defaults ws) ≡ None → 0 < length (records_of (or_defaults ws))
 unfolding or_defaults defaults
 some_file [] r = first_built (wanted 0 0x82 8) _ r
 some_file (w ∷ ws) r = first_built w ws r
@@ -168,24 +169,24 @@ some_file (w ∷ ws) r = first_built w ws r
 
 -- the questions are all answered with yes
 record Passed (p : Plan) (table_length memory_length : ℕ) : Type 0 where
-  files : file_refusal [] (or_defaults p.files) ≡ none
+  files : file_refusal [] (or_defaults p.files) ≡ None
   text : good_text p.text ≡ true
   room : fits (planned p) table_length memory_length ≡ true
   log : log_fits p.count p.log ≡ true
 
-all_passed : (p : Plan) (t m : ℕ) → build_refusal p t m ≡ none → Passed p t m
+all_passed : (p : Plan) (t m : ℕ) → build_refusal p t m ≡ None → Passed p t m
 unfolding build_refusal
 all_passed p t m = go (file_refusal [] (or_defaults p.files)) refl (good_text p.text) refl (fits (planned p) t m) refl (log_fits p.count p.log) refl
   where
-    go : (o : Option ℕ) → file_refusal [] (or_defaults p.files) ≡ o → (x : Bool) → good_text p.text ≡ x → (y : Bool) → fits (planned p) t m ≡ y
-        → (z : Bool) → log_fits p.count p.log ≡ z → or_then o (cond x (cond y (cond z none (some 15)) (some 14)) (some 13)) ≡ none → Passed p t m
-    go none a true b true c true d e = record { files = a; text = b; room = c; log = d }
-    go none a true b true c false d e = no_some (sym e)
-    go none a true b false c z d e = no_some (sym e)
-    go none a false b y c z d e = no_some (sym e)
-    go (some n) a x b y c z d e = no_some (sym e)
+    go : (o : Option Refusal) → file_refusal [] (or_defaults p.files) ≡ o → (x : Bool) → good_text p.text ≡ x → (y : Bool) → fits (planned p) t m ≡ y
+        → (z : Bool) → log_fits p.count p.log ≡ z → or_then o (cond x (cond y (cond z None (Some UnusableDatalog)) (Some FilesBeyondRoom)) (Some UnusableTypeText)) ≡ None → Passed p t m
+    go None a true b true c true d e = record { files = a; text = b; room = c; log = d }
+    go None a true b true c false d e = no_some (sym e)
+    go None a true b false c z d e = no_some (sym e)
+    go None a false b y c z d e = no_some (sym e)
+    go (Some n) a x b y c z d e = no_some (sym e)
 
-module _ (p : Plan) (table : List FileRecord) (memory : List ℕ) (none-refused : build_refusal p (length table) (length memory) ≡ none) where
+module _ (p : Plan) (table : List FileRecord) (memory : List ℕ) (none-refused : build_refusal p (length table) (length memory) ≡ None) where
   a : Passed p (length table) (length memory)
   a = all_passed p (length table) (length memory) none-refused
 
@@ -268,12 +269,12 @@ module _ (p : Plan) (table : List FileRecord) (memory : List ℕ) (none-refused 
       and_both three log_good
 
 -- a processor that is built is sound
-pub new_sound : (p : Plan) (table : List FileRecord) (memory : List ℕ) → (new_of p table memory).built.made ≡ made.Ready
+pub new_sound : (p : Plan) (table : List FileRecord) (memory : List ℕ) → (new_of p table memory).built.made ≡ Ok tt
     → sound (state_of (new_of p table memory).built.slc (new_of p table memory).table (new_of p table memory).memory p.log) ≡ true
 unfolding new_of
 new_sound p table memory = go (build_refusal p (length table) (length memory)) refl
   where
-    go : (o : Option ℕ) → build_refusal p (length table) (length memory) ≡ o → (raise o p table memory).built.made ≡ made.Ready
+    go : (o : Option Refusal) → build_refusal p (length table) (length memory) ≡ o → (raise o p table memory).built.made ≡ Ok tt
         → sound (state_of (raise o p table memory).built.slc (raise o p table memory).table (raise o p table memory).memory p.log) ≡ true
-    go none e m = subst (λ (s : State). sound s ≡ true) (sym (built_state_lem p table memory e)) (built_sound p table memory e)
-    go (some n) e m = let z : ◌≡◌ {A = ℕ} 0 1 = cc in absurd (omega arith)
+    go None e m = subst (λ (s : State). sound s ≡ true) (sym (built_state_lem p table memory e)) (built_sound p table memory e)
+    go (Some n) e m = let z : ◌≡◌ {A = ℕ} 0 1 = cc in absurd (omega arith)

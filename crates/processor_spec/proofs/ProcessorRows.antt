@@ -1,17 +1,16 @@
 -- Rows by computation, for the must-fail edits of a definition under which no law is false.
+use Rattle.std.specs.Prelude.{Result, Ok, Err}
 use Prim.Native.Nat.{ℕ}
 use mathlib.Core.Path.{◌≡◌, refl}
 use mathlib.Core.Bool.{Bool, true, false}
 use mathlib.Core.List.{List, [], ◌∷◌}
 use lib.ListN.{take, drop, replicate}
+use Rattle.base.specs.declared.refusal.Refusal.{Refusal}
+use Rattle.base.specs.declared.refusal.Refusal.TheVariants.{UnknownFileType, UnusableFileNumber, UnusableTypeText, FilesBeyondRoom, Unsound, ShortReplyMemory, MalformedCommand}
 use Rattle.base.specs.Chars.{bytes}
 use Rattle.directory_sys0.specs.Families.{sys0}
-use Rattle.processor_spec.specs.declared.Answered.{Answered}
-use Rattle.processor_spec.specs.declared.Answered.TheVariants as answered
 use Rattle.processor_spec.specs.declared.Done.{Done}
 use Rattle.processor_spec.specs.declared.FileRecord.{FileRecord}
-use Rattle.processor_spec.specs.declared.Made.{Made}
-use Rattle.processor_spec.specs.declared.Made.TheVariants as made
 use Rattle.processor_spec.specs.declared.Slc.{Slc}
 use Rattle.processor_spec.specs.Build.{Wanted, wanted, defaults, records_of, Raised, new_of}
 use Rattle.processor_spec.specs.Directory.{directory}
@@ -41,7 +40,7 @@ pub records :
 unfolding all
 records = refl
 
-abbrev makes : List Wanted → List ℕ → ℕ → ℕ → ℕ → Made
+abbrev makes : List Wanted → List ℕ → ℕ → ℕ → ℕ → Result (Unit {0}) Refusal
 makes files text count records memory =
     (new_of (record { files = files; text = text; log = []; count = count }) (replicate records (file 0 0 0 0)) (replicate memory 0x55)).built.made
 
@@ -55,7 +54,7 @@ pub made_rows :
     ∷ makes [] (replicate 12 0x41) 0 9 901
     ∷ makes (wanted 7 0x8D 781 ∷ []) [] 1 1 65604
     ∷ [])
-    ≡ (made.Ready ∷ made.Refused 14 ∷ made.Refused 11 ∷ made.Refused 12 ∷ made.Ready ∷ made.Refused 13 ∷ made.Refused 14 ∷ [])
+    ≡ (Ok tt ∷ Err FilesBeyondRoom ∷ Err UnknownFileType ∷ Err UnusableFileNumber ∷ Ok tt ∷ Err UnusableTypeText ∷ Err FilesBeyondRoom ∷ [])
 unfolding all
 made_rows = refl
 
@@ -84,7 +83,7 @@ plain_rows = refl
 
 -- the processor that a call leaves, and commands one after the other
 abbrev onward : Raised → Left Done → Raised
-onward r x = record { built = record { slc = x.done.slc; made = made.Ready }; table = r.table; memory = x.memory }
+onward r x = record { built = record { slc = x.done.slc; made = Ok tt }; table = r.table; memory = x.memory }
 
 unfoldable pub session : Raised → List ℕ → List (List ℕ) → List (List ℕ)
 session r log [] = []
@@ -132,11 +131,11 @@ unfolding all told call built command session
 datalog_rows = refl
 
 -- 16 before 17, 17 before 18, a first byte of 0, and a reply in 514 bytes
-abbrev answers : ℕ → ℕ → List ℕ → Answered
+abbrev answers : ℕ → ℕ → List ℕ → Result ℕ Refusal
 answers files room c = (pccc_of (slc files 4 0 0) (file 7 0x89 0 2 ∷ []) (0 ∷ 0 ∷ []) [] c (replicate room 0)).done.answered
 
 pub call_rows :
     (answers 0 513 [] ∷ answers 1 513 [] ∷ answers 1 514 (0x00 ∷ 0x0F ∷ 0x00 ∷ 0x00 ∷ 0x00 ∷ []) ∷ answers 1 514 (0x01 ∷ 0x0F ∷ 0x00 ∷ 0x00 ∷ 0x00 ∷ []) ∷ [])
-    ≡ (answered.Refused 16 ∷ answered.Refused 17 ∷ answered.Refused 18 ∷ answered.Reply 5 ∷ [])
+    ≡ (Err Unsound ∷ Err ShortReplyMemory ∷ Err MalformedCommand ∷ Ok 5 ∷ [])
 unfolding all
 call_rows = refl

@@ -1,15 +1,17 @@
 -- Every reply fits 514 bytes: an id of at most 255, four bytes, and at most 255 of data.
+use Rattle.std.specs.Prelude.{Option}
 use Prim.Native.Nat.{ℕ, zero, suc, ◌+◌, ◌*◌, ◌≤◌, ◌<◌}
 use mathlib.Core.Path.{◌≡◌, refl, subst}
 use mathlib.Core.Bool.{true, ◌&&◌}
 use mathlib.Core.List.{List, [], ◌∷◌}
-use mathlib.Core.Option.{Option}
 use native.Mathlib.Omega.{arith}
 use borrow.Author.Tests.{leb-true, le-leb}
 use lib.Dec.{leb, eqb, lit≤}
 use lib.ListN.{length, get_or, take, drop, length-append, length-take}
 use Rattle.base.specs.Numbers.{number}
 use Rattle.base.proofs.Put.{put_length}
+use Rattle.base.specs.declared.refusal.Refusal.{Refusal}
+use Rattle.base.specs.declared.refusal.Refusal.TheVariants.{Unsound, ShortReplyMemory, MalformedCommand}
 use Rattle.parser_spec.specs.Parts.{then}
 use Rattle.parser_spec.proofs.Held.{Holds, nothing, that, and_next, and_any}
 use Rattle.directory_sys0.specs.declared.Sys0Info.{Sys0Info}
@@ -126,7 +128,7 @@ module _ (s : State) (c : List ℕ) (b : Bytes c) where
   Fits : ℕ → Step → Type 0
   Fits room x = (out : List ℕ) → x.answer ≡ replied out → (length out ≤ 514) × (514 ≤ room)
 
-  none_fits : (room n : ℕ) → Fits room (refuse n)
+  none_fits : (room : ℕ) (n : Refusal) → Fits room (refuse n)
   unfolding refuse Fits
   none_fits room n out e = let z : ◌≡◌ {A = ℕ} 0 1 = cc in absurd (omega arith)
 
@@ -141,9 +143,9 @@ module _ (s : State) (c : List ℕ) (b : Bytes c) where
       let q : Ask = ask s.records s.type_text (cmd c) (function c) in
       let small : Small q = ask_small s.records s.type_text (cmd c) (function c) (bytes_behind 4 (body c) (bytes_behind (get_or c 0 0) c b)) in
       (perform_fits g q small out e, leb-true 514 room l))
-      (λ _. none_fits room 18))
-      (λ _. none_fits room 17))
-      (λ _. none_fits room 16)
+      (λ _. none_fits room MalformedCommand))
+      (λ _. none_fits room ShortReplyMemory))
+      (λ _. none_fits room Unsound)
 
   pub reply_fits : (room : ℕ) (out : List ℕ) → (step s c room).answer ≡ replied out → length out ≤ 514
   unfolding Fits

@@ -8,6 +8,7 @@ use borrow.Author.Tests.{leb-true}
 use lib.Dec.{leb}
 use lib.ListN.{length, get_or, take}
 use lib.Seq.{length-take-le, get_or-append-add}
+use Rattle.base.specs.declared.refusal.Refusal.{Refusal}
 use Rattle.processor_spec.specs.Ask.{Ask, fail, tell, pop, read, write, ask}
 use Rattle.processor_spec.specs.Frame.{well_formed, requester, cmd, function, framed, status}
 use Rattle.processor_spec.specs.Masked.{masked_at}
@@ -110,7 +111,7 @@ status_keeps s c room =
     (λ _ bs p ne. refl)
 
 abbrev Unmoved : Step → Type 0
-Unmoved x = (n : ℕ) → x.answer ≡ refused n → x.effect ≡ keeps
+Unmoved x = (n : Refusal) → x.answer ≡ refused n → x.effect ≡ keeps
 
 perform_unmoved : (s : State) (c : List ℕ) (q : Ask) → Unmoved (perform s c q)
 unfolding perform popped
@@ -124,7 +125,7 @@ perform_unmoved s c pop k e = go s.datalog e
 perform_unmoved s c (read at size) k e = refl
 perform_unmoved s c (write at mask vs) k e = let z : ◌≡◌ {A = ℕ} 0 1 = cc in absurd (omega arith)
 
-pub refusal_keeps : (s : State) (c : List ℕ) (room n : ℕ) → (step s c room).answer ≡ refused n → (step s c room).effect ≡ keeps
+pub refusal_keeps : (s : State) (c : List ℕ) (room : ℕ) (n : Refusal) → (step s c room).answer ≡ refused n → (step s c room).effect ≡ keeps
 unfolding step refuse obey
 refusal_keeps s c room =
     cases Unmoved (sound s) _ _

@@ -1,7 +1,6 @@
 -- What a command asks, by the file records and the type text alone (document 01, "What the processor does").
-use Rattle.std.specs.Prelude.{ℕ, ◌+◌, ◌*◌, ◌&&◌, cond, List, [], ◌∷◌, ◌++◌, leb, eqb, length, take, drop, replicate}
-use Rattle.std.proofs.Math.Option.{Option, none, some}
-use Rattle.parser_spec.specs.Parts.{Part, then, ◌>>=◌, give}
+use Rattle.std.specs.Prelude.{ℕ, ◌+◌, ◌*◌, ◌&&◌, cond, List, [], ◌∷◌, ◌++◌, leb, eqb, length, take, drop, replicate, Option, None, Some}
+use Rattle.parser_spec.specs.Parts.{Part, ◌>>=◌, give}
 use Rattle.element_text.specs.Text.{fitted}
 use Rattle.directory_sys0.specs.declared.Sys0Info.{Sys0Info}
 use Rattle.directory_sys0.specs.Families.{sys0}
@@ -31,8 +30,8 @@ unfoldable pub bad : Ask
 bad = fail 0xF0 (0x06 ∷ [])
 
 abbrev pub or_bad : Option (Ask × List ℕ) → Ask
-or_bad none = bad
-or_bad (some x) = x.0
+or_bad None = bad
+or_bad (Some x) = x.0
 
 -- "A wrong type code is bad. Size element with size 2 to 8 gives the directory's length ..; otherwise size bytes from 2 × element on, bad if
 -- 2 × element + size is above the length."
@@ -46,8 +45,8 @@ ask_directory rs sys h =
 
 -- a place, where there is one
 abbrev pub place : Option ℕ → Part ℕ
-place none = λ s. none
-place (some at) = give at
+place None = λ s. None
+place (Some at) = give at
 
 -- "Else the last address .., the mask (0xAB) and, for 0xAA and 0xAB, size value bytes must be there, the file must exist with that type, and
 -- element × element size + 2 × last address + size must be within its length: bad if not."
@@ -61,8 +60,8 @@ ask_file rs fn h = do
 
 -- the questions of CMD 0x0F, in their order; `x` are the header and the bytes behind it
 abbrev pub ask_function : List FileRecord → List ℕ → ℕ → Option (Header × List ℕ) → Ask
-ask_function rs text fn none = bad
-ask_function rs text fn (some x) =
+ask_function rs text fn None = bad
+ask_function rs text fn (Some x) =
     cond (known_function fn)
     (cond (asks_directory fn x.0.file) (ask_directory rs (sys0 text) x.0)
     (cond (asks_datalog fn x.0.code) pop

@@ -1,6 +1,5 @@
 -- The file directory (document 01, "What the processor does").
-use Rattle.std.specs.Prelude.{ℕ, zero, suc, ◌+◌, List, [], ◌∷◌, ◌++◌, length, replicate}
-use Rattle.std.proofs.Math.Option.{Option, none, some}
+use Rattle.std.specs.Prelude.{ℕ, zero, suc, ◌+◌, List, [], ◌∷◌, ◌++◌, length, replicate, Option, None, Some}
 use Rattle.base.specs.Numbers.{low_first}
 use Rattle.element_text.specs.Text.{fitted}
 use Rattle.directory_sys0.specs.declared.Sys0Info.{Sys0Info}
@@ -9,8 +8,8 @@ use Rattle.processor_spec.specs.Files.{find}
 
 -- "code and length word, or 81", on zeros
 abbrev pub file_row : ℕ → Option FileRecord → List ℕ
-file_row size none = fitted size 0 (0x81 ∷ [])
-file_row size (some r) = fitted size 0 (r.code ∷ low_first 2 r.length)
+file_row size None = fitted size 0 (0x81 ∷ [])
+file_row size (Some r) = fitted size 0 (r.code ∷ low_first 2 r.length)
 
 -- so many rows, from the file number `n` on
 unfoldable pub file_rows : List FileRecord → ℕ → ℕ → ℕ → List ℕ

@@ -1,6 +1,6 @@
 -- Element access (document 01, "Element access").
-use Rattle.std.specs.Prelude.{ℕ, ◌+◌, cond, List, take, drop}
-use Rattle.std.proofs.Math.Option.{Option, none, some}
+use Rattle.std.specs.Prelude.{ℕ, ◌+◌, cond, List, take, drop, Option, None, Some}
+use Rattle.base.specs.declared.refusal.Refusal.TheVariants.{Unsound, NoSuchElement}
 use Rattle.base.specs.Outcome.{Outcome, refused, lays}
 use Rattle.element_spec.specs.Decode.{Says, refuses, decoded}
 use Rattle.element_spec.specs.declared.Value.{Value}
@@ -19,21 +19,21 @@ element_bytes t memory at = take (row t).size (drop at memory)
 
 -- what is done to an element, as it is done to the data memory
 abbrev pub behind : ℕ → Outcome → Outcome
-behind at (refused n) = refused n
+behind at (refused e) = refused e
 behind at (lays place bs) = lays (at + place) bs
 
 abbrev pub set_at : Option ℕ → FileType → Value → List ℕ → List ℕ → Outcome
-set_at none t v text memory = refused 19
-set_at (some at) t v text memory = behind at (encoded t v text (element_bytes t memory at))
+set_at None t v text memory = refused NoSuchElement
+set_at (Some at) t v text memory = behind at (encoded t v text (element_bytes t memory at))
 
 -- setting: 16, 19, then 20 to 23 of the element's bytes; what the call does with the data memory
 unfoldable pub set_of : State → FileType → ℕ → ℕ → Value → List ℕ → Outcome
-set_of s t file element v text = cond (sound s) (set_at (element_at s t file element) t v text s.memory) (refused 16)
+set_of s t file element v text = cond (sound s) (set_at (element_at s t file element) t v text s.memory) (refused Unsound)
 
 abbrev pub read_at : Option ℕ → FileType → List ℕ → ℕ → Says
-read_at none t memory room = refuses 19
-read_at (some at) t memory room = decoded t (element_bytes t memory at) room
+read_at None t memory room = refuses NoSuchElement
+read_at (Some at) t memory room = decoded t (element_bytes t memory at) room
 
 -- reading: 16, 19, then 24 with the room for text
 unfoldable pub read_of : State → FileType → ℕ → ℕ → ℕ → Says
-read_of s t file element room = cond (sound s) (read_at (element_at s t file element) t s.memory room) (refuses 16)
+read_of s t file element room = cond (sound s) (read_at (element_at s t file element) t s.memory room) (refuses Unsound)

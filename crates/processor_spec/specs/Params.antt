@@ -1,12 +1,11 @@
 -- The bytes behind the function byte, read part by part (document 01, "What the processor does"; the Rust's `Params`).
-use Rattle.std.specs.Prelude.{ℕ, Bool, ◌&&◌, ◌||◌, cond, List, [], leb, eqb, length, take, drop}
-use Rattle.std.proofs.Math.Option.{none, some}
+use Rattle.std.specs.Prelude.{ℕ, Bool, ◌&&◌, ◌||◌, cond, List, [], leb, eqb, length, take, drop, None, Some}
 use Rattle.base.specs.Numbers.{number}
-use Rattle.parser_spec.specs.Parts.{Part, then, ◌>>=◌, give}
+use Rattle.parser_spec.specs.Parts.{Part, ◌>>=◌, give}
 
 -- so many bytes
 unfoldable pub several : ℕ → Part (List ℕ)
-several k s = cond (leb k (length s)) (some (take k s, drop k s)) none
+several k s = cond (leb k (length s)) (Some (take k s, drop k s)) None
 
 -- a number of so many bytes, low byte first
 abbrev pub number_of : ℕ → Part ℕ

@@ -1,28 +1,27 @@
 -- The call `Slc::pccc`: what it answers, and what it leaves in its memories.
-use Rattle.std.specs.Prelude.{ℕ, ◌+◌, ◌-◌, ◌≡◌, List, [], length, take, drop}
+use Rattle.std.specs.Prelude.{ℕ, ◌+◌, ◌-◌, ◌≡◌, List, [], length, take, drop, Result, Ok, Err}
+use Rattle.base.specs.declared.refusal.Refusal.{Refusal}
 use Rattle.base.specs.Put.{put}
-use Rattle.processor_spec.specs.declared.Answered.{Answered}
-use Rattle.processor_spec.specs.declared.Answered.TheVariants as answered
 use Rattle.processor_spec.specs.declared.Done.{Done}
 use Rattle.processor_spec.specs.declared.FileRecord.{FileRecord}
 use Rattle.processor_spec.specs.declared.Slc.{Slc}
 use Rattle.processor_spec.specs.Plain.{entry_room, state_of}
 use Rattle.processor_spec.specs.Step.{Answer, refused, replied, Effect, keeps, takes, lays, Step, step}
 
--- a refusal's number, or the length of the reply
-unfoldable pub answered_of : Answer → Answered
-answered_of (refused n) = answered.Refused n
-answered_of (replied bs) = answered.Reply (length bs)
+-- a refusal, or the length of the reply
+unfoldable pub answered_of : Answer → Result ℕ Refusal
+answered_of (refused e) = Err e
+answered_of (replied bs) = Ok (length bs)
 
 -- "A numbered refusal .. changes no lent memory. A success writes its stated bytes and nothing behind them."
 unfoldable pub reply_left : Answer → List ℕ → List ℕ
-reply_left (refused n) memory = memory
+reply_left (refused e) memory = memory
 reply_left (replied bs) memory = put memory 0 bs
 
 -- the bytes that a caller is told: the reply, or nothing
-unfoldable pub heard : Answered → List ℕ → List ℕ
-heard (answered.Refused n) memory = []
-heard (answered.Reply k) memory = take k memory
+unfoldable pub heard : Result ℕ Refusal → List ℕ → List ℕ
+heard (Err e) memory = []
+heard (Ok k) memory = take k memory
 
 -- the data memory that a command leaves
 unfoldable pub memory_left : Effect → List ℕ → List ℕ

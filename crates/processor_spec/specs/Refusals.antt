@@ -1,9 +1,7 @@
--- "The first "no" gives the number" (document 01, "Questions put to each call"): that number, or that every question was answered with yes.
-use Rattle.std.specs.Prelude.{ℕ}
-use Rattle.std.proofs.Math.Option.{Option, none, some}
-use Rattle.processor_spec.specs.declared.Refusal.{Refusal}
-use Rattle.processor_spec.specs.declared.Refusal.TheVariants as refusal
+-- "The first "no" gives the number" (document 01, "Questions put to each call"): what that question means, or that every one was answered with yes.
+use Rattle.std.specs.Prelude.{Option, None, Some, Result, Ok, Err}
+use Rattle.base.specs.declared.refusal.Refusal.{Refusal}
 
-abbrev pub refusal_of : Option ℕ → Refusal
-refusal_of none = refusal.None
-refusal_of (some n) = refusal.Number n
+abbrev pub refusal_of : Option Refusal → Result (Unit {0}) Refusal
+refusal_of None = Ok tt
+refusal_of (Some e) = Err e

@@ -1,14 +1,16 @@
 -- What a command answers and changes, and a list of commands (document 01, "Command" and "What the processor does").
 use Rattle.std.specs.Prelude.{ℕ, cond, List, [], ◌∷◌, leb, length, take, drop}
+use Rattle.base.specs.declared.refusal.Refusal.{Refusal}
+use Rattle.base.specs.declared.refusal.Refusal.TheVariants.{Unsound, ShortReplyMemory, MalformedCommand}
 use Rattle.base.specs.Put.{put}
 use Rattle.processor_spec.specs.Ask.{Ask, fail, tell, pop, read, write, ask}
 use Rattle.processor_spec.specs.Frame.{well_formed, cmd, function, framed}
 use Rattle.processor_spec.specs.Masked.{masked_at}
 use Rattle.processor_spec.specs.State.{State, sound}
 
--- the number of a refusal, or the bytes of a reply
+-- a refusal, or the bytes of a reply
 pub data Answer : Type 0 where
-  refused : ℕ → Answer
+  refused : Refusal → Answer
   replied : List ℕ → Answer
 
 --     keeps      nothing changes
@@ -46,8 +48,8 @@ perform s c (write at mask values) = record { answer = replied (framed c 0 []); 
 unfoldable pub obey : State → List ℕ → Step
 obey s c = perform s c (ask s.records s.type_text (cmd c) (function c))
 
-unfoldable pub refuse : ℕ → Step
-refuse n = record { answer = refused n; effect = keeps }
+unfoldable pub refuse : Refusal → Step
+refuse e = record { answer = refused e; effect = keeps }
 
 -- "Is the state sound? no: 16. Has the reply memory 514 bytes? no: 17. Is the input not empty, its first byte not 0, and its length at least
 -- that byte plus 4? no: 18"; `room` is the length of the reply memory
@@ -55,9 +57,9 @@ unfoldable pub step : State → List ℕ → ℕ → Step
 step s c room =
     cond (sound s)
     (cond (leb 514 room)
-    (cond (well_formed c) (obey s c) (refuse 18))
-    (refuse 17))
-    (refuse 16)
+    (cond (well_formed c) (obey s c) (refuse MalformedCommand))
+    (refuse ShortReplyMemory))
+    (refuse Unsound)
 
 -- a command, and the reply memory that it is lent
 pub record Call : Type 0 where

@@ -3,7 +3,7 @@ use Rattle.std.specs.Prelude.{ℕ, List, [], ◌∷◌, ◌++◌, get_or, drop, 
 use Rattle.base.specs.Chars.{spelled}
 use Rattle.base.specs.Numbers.{low_first, number}
 use Rattle.base.specs.Put.{put}
-use Rattle.file_type.specs.Table.{first, of_code, element_size}
+use Rattle.file_type.specs.Table.{of_code, element_size}
 use Rattle.parser_spec.specs.Parts.{then}
 use Rattle.element_text.specs.Text.{fitted}
 use Rattle.directory_sys0.specs.Families.{family_in, sys0}
@@ -23,7 +23,7 @@ use Rattle.processor_spec.specs.ElementAccess.{element_at, set_of, read_of}
 
 -- To unfold `all` is to unfold each definition of the processor.
 unfoldable pub all : Unit {0}
-unfolding spelled low_first number put first of_code then fitted family_in sys0 every element_size known_code good_record ascend end_to_end total good_text good_log good_table sound find contents locate masked masked_at file_rows last_number directory directory_size several address header known_function writes asks_directory asks_datalog last_address mask_word value_bytes illegal bad ask_directory ask_file diagnostic ask well_formed requester body cmd function framed after popped perform obey refuse step step_of next run entry_room entries holds within held_state no_state state_of answered_of reply_left heard memory_left slc_left pccc_of defaults or_defaults wanted_with has file_refusal records_from records_of planned fits log_fits build_refusal slc_of no_slc new_of element_at set_of read_of
+unfolding spelled low_first number put of_code then fitted family_in sys0 every element_size known_code good_record ascend end_to_end total good_text good_log good_table sound find contents locate masked masked_at file_rows last_number directory directory_size several address header known_function writes asks_directory asks_datalog last_address mask_word value_bytes illegal bad ask_directory ask_file diagnostic ask well_formed requester body cmd function framed after popped perform obey refuse step step_of next run entry_room entries holds within held_state no_state state_of answered_of reply_left heard memory_left slc_left pccc_of defaults or_defaults wanted_with has file_refusal records_from records_of planned fits log_fits build_refusal slc_of no_slc new_of element_at set_of read_of
 all = tt
 
 -- a processor with the default files, in memories that hold just these

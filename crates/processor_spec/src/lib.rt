@@ -1,6 +1,8 @@
 // The simulated processor: its plain data. What the data means, and what the processor does, are the definitions in specs/.
 #![tactic(auto)]
 
+use base::Refusal;
+
 // A file: its number, its type code, and where its bytes lie in the data memory.
 #[repr(C)]
 #[derive(Clone, Copy)]
@@ -24,37 +26,16 @@ pub struct Slc {
     pub log_left: usize,
 }
 
-// The number of the first question that was answered with no, where one was.
-#[derive(Clone, Copy)]
-pub enum Refusal {
-    None,
-    Number(u8),
-}
-
-// What a command answers: the number of the question that was answered with no, or how many bytes of the reply memory are the reply.
-#[derive(Clone, Copy)]
-pub enum Answered {
-    Refused(u8),
-    Reply(usize),
-}
-
-// The processor as a command leaves it, and the answer.
+// The processor as a command leaves it, and the answer: how many bytes of the reply memory are the reply.
 #[derive(Clone, Copy)]
 pub struct Done {
     pub slc: Slc,
-    pub answered: Answered,
-}
-
-// What building answers.
-#[derive(Clone, Copy)]
-pub enum Made {
-    Refused(u8),
-    Ready,
+    pub answered: Result<usize, Refusal>,
 }
 
 // The processor that was built; where building was refused, one that has no file.
 #[derive(Clone, Copy)]
 pub struct Built {
     pub slc: Slc,
-    pub made: Made,
+    pub made: Result<(), Refusal>,
 }

@@ -1,26 +1,25 @@
 -- The pass over the records gives what the definition says, which speaks of the list of records alone.
+use Rattle.std.specs.Prelude.{Option, None, Some}
 use Prim.Native.Nat.{ℕ, suc, ◌+◌, ◌%◌, ◌<◌, ◌≤◌, min}
 use mathlib.Core.Path.{◌≡◌, refl, sym, ap, subst, ◌∙◌}
 use mathlib.Core.List.{List, [], ◌∷◌}
-use mathlib.Core.Option.{Option, none, some}
 use mathlib.Core.Bool.{Bool, true, false, ◌&&◌, cond, false≢true}
 use native.Mathlib.Nat.{zero-add}
 use native.Mathlib.Omega.{arith}
 use native.Mathlib.Numerals.{add-one}
-use borrow.Author.Tests.{ltb-true, ltb-false, leb-true, eqb-true, lt-ltb, le-leb, lt-leb, ne_eqb}
+use borrow.Author.Tests.{ltb-true, ltb-false, leb-true, leb-false, eqb-true, lt-ltb, le-leb, lt-leb, ne_eqb}
 use lib.Dec.{leb, ltb, eqb}
-use lib.ListN.{length, get_or, take, drop, drop_of_length-le, length-take}
-use lib.Seq.{drop-cons, get_or-take, length-take-le}
-use Rattle.file_type.specs.Table.{first, of_code, element_size}
+use lib.ListN.{length, get_or, take, drop, drop_of_length-le}
+use lib.Seq.{drop-cons, length-take-le, take_all}
+use Rattle.file_type.specs.Table.{of_code, element_size}
 use Rattle.processor_spec.specs.declared.FileRecord.{FileRecord}
 use Rattle.processor_spec.specs.Directory.{last_number}
 use Rattle.processor_spec.specs.Files.{find}
 use Rattle.processor_spec.specs.State.{every, known_code, good_record, ascend, end_to_end, total, good_table}
 use Rattle.processor_spec.proofs.Tests.{and_l, and_r}
 use Rattle.processor_table.specs.declared.Pass.{Pass}
-use Rattle.processor_table.specs.declared.Seen.{Seen}
-use Rattle.processor_table.specs.Survey.{no_record, there, or_none, told_of, lost_of, survey_of}
-use Rattle.processor_table.specs.SurveySteps.{folded, whole_of, follows_of, pass, found_by, first_number, begun_of, passed_of, seen, concluded_of}
+use Rattle.processor_table.specs.Survey.{told_of, lost_of, survey_of}
+use Rattle.processor_table.specs.SurveySteps.{folded, whole_of, follows_of, pass, found_by, found_in, no_record, first_number, begun_of, passed_of, seen, concluded_of}
 
 -- ---- the tests, record by record, are the definition's
 
@@ -74,7 +73,7 @@ module _ (next at : ℕ) (r : FileRecord) (h : follows_of next at r ≡ true) wh
   small = let g : leb r.number 255 ≡ true = search (and_l, and_r) in leb-true r.number 255 g
 
   known : r.code ≡ 0 → ⊥
-  unfolding follows_of whole_of known_code element_size of_code first
+  unfolding follows_of whole_of known_code element_size of_code
   known e =
       let k : known_code r.code ≡ true = search (and_l, and_r) in
       false≢true (ap known_code (sym e) ∙ k)
@@ -86,7 +85,7 @@ last_small (r ∷ rs) next at g l =
     last_small rs (suc r.number) (at + r.length) (and_r (follows_of next at r) _ g) (omega (arith, small next at r (and_l _ (good (suc r.number) (at + r.length) rs) g)))
 
 -- numbers ascend, so that a number below is met no more
-absent : (u : ℕ) (rs : List FileRecord) (next at : ℕ) → good next at rs ≡ true → u < next → find u rs ≡ none
+absent : (u : ℕ) (rs : List FileRecord) (next at : ℕ) → good next at rs ≡ true → u < next → find u rs ≡ None
 unfolding good find
 absent u [] next at g l = refl
 absent u (r ∷ rs) next at g l =
@@ -94,8 +93,8 @@ absent u (r ∷ rs) next at g l =
     rw (ne_eqb r.number u (λ e. omega arith)) (absent u rs (suc r.number) (at + r.length) (and_r (follows_of next at r) _ g) (omega arith))
 
 abbrev or_else : Option FileRecord → FileRecord → FileRecord
-or_else none q = q
-or_else (some r) q = r
+or_else None q = q
+or_else (Some r) q = r
 
 module _ (u next at : ℕ) (q r : FileRecord) where
   step_on : follows_of next at r ≡ true → passed_of (pass next at u q) r ≡ pass (suc r.number) (at + r.length) u (cond (eqb r.number u) r q)
@@ -127,25 +126,22 @@ passes u (r ∷ rs) next at q g =
 
     by_test_lem : (b : Bool) → eqb r.number u ≡ b
         → pass (after (suc r.number) rs) (at + r.length + total rs) u (or_else (find u rs) (cond (eqb r.number u) r q))
-        ≡ pass (after (suc r.number) rs) (at + (r.length + total rs)) u (or_else (cond (eqb r.number u) (some r) (find u rs)) q)
+        ≡ pass (after (suc r.number) rs) (at + (r.length + total rs)) u (or_else (cond (eqb r.number u) (Some r) (find u rs)) q)
     by_test_lem true e = rw (e, absent u rs (suc r.number) (at + r.length) rest (omega (arith, eqb-true r.number u e)), sum)
     by_test_lem false e = rw (e, sum)
 
 -- a record that is found has a known code, which isn't 0, and the number that is sought
-abbrev concluded : ℕ → ℕ → ℕ → FileRecord → Seen
-concluded next at u q = cond (eqb q.code 0) (seen next at u false no_record) (seen next at u true (record { number = u; code = q.code; start = q.start; length = q.length }))
-
-found_is : (u n k : ℕ) (rs : List FileRecord) (next at : ℕ) → good next at rs ≡ true → concluded n k u (or_none (find u rs)) ≡ seen n k u (there (find u rs)) (or_none (find u rs))
+found_is : (u n k : ℕ) (rs : List FileRecord) (next at : ℕ) → good next at rs ≡ true → found_in (pass n k u (or_else (find u rs) no_record)) ≡ find u rs
 unfolding good find
 found_is u n k [] next at g = refl
 found_is u n k (r ∷ rs) next at g = by_test_lem (found_is u n k rs (suc r.number) (at + r.length) (and_r (follows_of next at r) _ g)) (eqb r.number u) refl
   where
-    by_test_lem : concluded n k u (or_none (find u rs)) ≡ seen n k u (there (find u rs)) (or_none (find u rs)) → (b : Bool) → eqb r.number u ≡ b
-        → concluded n k u (or_none (cond (eqb r.number u) (some r) (find u rs))) ≡ seen n k u (there (cond (eqb r.number u) (some r) (find u rs))) (or_none (cond (eqb r.number u) (some r) (find u rs)))
+    by_test_lem : found_in (pass n k u (or_else (find u rs) no_record)) ≡ find u rs → (b : Bool) → eqb r.number u ≡ b
+        → found_in (pass n k u (or_else (cond (eqb r.number u) (Some r) (find u rs)) no_record)) ≡ cond (eqb r.number u) (Some r) (find u rs)
     by_test_lem ih true e =
         let is : u ≡ r.number = sym (eqb-true r.number u e) in
         rw (e, ne_eqb r.code 0 (known next at r (and_l _ (good (suc r.number) (at + r.length) rs) g)))
-        (ap (λ (m : ℕ). seen n k u true (record { number = m; code = r.code; start = r.start; length = r.length })) is)
+        (ap (λ (m : ℕ). Some (record { number = m; code = r.code; start = r.start; length = r.length })) is)
     by_test_lem ih false e = rw e ih
 
 -- ---- and over others
@@ -175,10 +171,6 @@ fails u (r ∷ rs) next at q g = by_test_lem (fails u rs (suc r.number) (at + r.
 
 -- ---- the definition
 
-or_none_lem : (o : Option FileRecord) → or_else o no_record ≡ or_none o
-or_none_lem none = refl
-or_none_lem (some r) = refl
-
 -- over records, of which there is one
 told : (u : ℕ) (rs : List FileRecord) → 0 < length rs → concluded_of (folded passed_of rs (pass 0 0 u no_record)) ≡ cond (good_table rs) (told_of u rs) (lost_of u)
 unfolding good_table told_of concluded_of
@@ -190,8 +182,8 @@ told u rs l = by_good (good 0 0 rs) refl
     by_good : (b : Bool) → good 0 0 rs ≡ b → concluded_of (folded passed_of rs (pass 0 0 u no_record))
         ≡ cond (ltb 0 (length rs) && every good_record rs && ascend 0 rs && end_to_end 0 rs && leb (total rs) 65535) (told_of u rs) (lost_of u)
     by_good true e =
-        rw (passes u rs 0 0 no_record e, is, e, or_none_lem (find u rs), zero-add (total rs), le-leb (after 0 rs) 256 (last_small rs 0 0 e (omega arith)), one_more rs l)
-        (ap (λ (x : Seen). cond (leb (total rs) 65535) x (lost_of u)) (found_is u (suc (last_number 0 rs)) (total rs) rs 0 0 e))
+        rw (passes u rs 0 0 no_record e, is, e, zero-add (total rs), le-leb (after 0 rs) 256 (last_small rs 0 0 e (omega arith)), one_more rs l)
+        (ap (λ (x : Option FileRecord). cond (leb (total rs) 65535) (seen (suc (last_number 0 rs)) (total rs) u x) (lost_of u)) (found_is u (suc (last_number 0 rs)) (total rs) rs 0 0 e))
     by_good false e = rw (is, e) (fails u rs 0 0 no_record e)
 
 empty : (ts : List FileRecord) → length ts ≡ 0 → good_table ts ≡ false
@@ -221,15 +213,25 @@ survey_right ys n u = by_count (leb n (length ys)) refl
     by_count false e = rw (e, no_more (ltb 0 n)) (stays_lost u (take n ys) 0 no_record)
 
 -- ---- the pass, record by record
-module _ {X : Type 0} (f : X → FileRecord → X) (ys : List FileRecord) (n i : ℕ) (d : X) where
-  -- to take the record at i is to go on from the next
-  pub sees : i < min n (length ys) → folded f (drop (i + 1) (take n ys)) (f d (get_or ys i no_record)) ≡ folded f (drop i (take n ys)) d
-  unfolding folded
-  sees l =
-      ap (λ (r : FileRecord). folded f (drop (i + 1) (take n ys)) (f d r)) (sym (get_or-take n ys i no_record (omega arith)))
-      ∙ ap (λ (k : ℕ). folded f (drop k (take n ys)) (f d (get_or (take n ys) i no_record))) (add-one i)
-      ∙ sym (ap (λ (t : List FileRecord). folded f t d) (drop-cons (take n ys) i no_record (subst (λ (k : ℕ). i < k) (sym (length-take n ys)) l)))
 
-  pub at_end_lem : min n (length ys) ≤ i → folded f (drop i (take n ys)) d ≡ d
+-- the records that are surveyed: the first n, or all that there are
+pub first_rows : (ys : List FileRecord) (n : ℕ) {m : ℕ} → m ≡ min n (length ys) → take m ys ≡ take n ys
+first_rows ys n {m} e = go (leb n (length ys)) refl
+  where
+    go : (b : Bool) → leb n (length ys) ≡ b → take m ys ≡ take n ys
+    go true t = let l : n ≤ length ys = leb-true n (length ys) t in let p : m ≡ n = omega arith in rw p
+    go false t =
+        let l : length ys < n = leb-false n (length ys) t in
+        let a : length ys ≤ m = omega arith in
+        let b : length ys ≤ n = omega arith in
+        take_all m ys a ∙ sym (take_all n ys b)
+
+module _ {X : Type 0} (f : X → FileRecord → X) (rs : List FileRecord) (i : ℕ) (d : X) where
+  -- to take the record at i is to go on from the next
+  pub sees : i < length rs → folded f (drop (i + 1) rs) (f d (get_or rs i no_record)) ≡ folded f (drop i rs) d
   unfolding folded
-  at_end_lem g = let h : length (take n ys) ≤ i = subst (λ (k : ℕ). k ≤ i) (sym (length-take n ys)) g in rw (drop_of_length-le (take n ys) h)
+  sees l = ap (λ (k : ℕ). folded f (drop k rs) (f d (get_or rs i no_record))) (add-one i) ∙ sym (ap (λ (t : List FileRecord). folded f t d) (drop-cons rs i no_record l))
+
+  pub at_end_lem : length rs ≤ i → folded f (drop i rs) d ≡ d
+  unfolding folded
+  at_end_lem g = rw (drop_of_length-le rs g)

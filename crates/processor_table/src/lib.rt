@@ -3,7 +3,7 @@
 
 ghost use Rattle.std.specs.Prelude.{◌≡◌};
 ghost use Rattle.processor_table.specs.Survey.{lost_of, survey_of};
-ghost use Rattle.processor_table.specs.SurveySteps.{whole_of, follows_of, first_number, begun_of, passed_of, concluded_of};
+ghost use Rattle.processor_table.specs.SurveySteps.{whole_of, follows_of, first_number, begun_of, passed_of, found_in, concluded_of};
 
 use processor_spec::FileRecord;
 
@@ -15,10 +15,9 @@ pub struct Seen {
     pub next: u16,
     // bytes of all files
     pub total: u16,
-    // the number that is sought, and its record
+    // the number that is sought, and its record, where there is one
     pub number: u16,
-    pub hit: bool,
-    pub found: FileRecord,
+    pub found: Option<FileRecord>,
 }
 
 // Is the type code one of the simulator's twelve, and the length a multiple of its element size? Constant divisors, as this is asked of each record.
@@ -28,11 +27,9 @@ fn whole(code: u8, length: u16) -> bool
     match code {
         0x82..=0x85 => length % 2 == 0,
         0x86..=0x88 => length % 6 == 0,
-        0x89 => length % 2 == 0,
-        0x8A => length % 4 == 0,
+        0x89 | 0x8E => length % 2 == 0,
+        0x8A | 0x91 => length % 4 == 0,
         0x8D => length % 84 == 0,
-        0x8E => length % 2 == 0,
-        0x91 => length % 4 == 0,
         _ => false,
     }
 }
@@ -50,35 +47,23 @@ pub struct Pass {
 }
 
 // May the record follow records with numbers below `next` that end at data byte `total`?
+#[tactic(auto, unfolding(crate::specs::SurveySteps::follows_of))]
 fn follows(next: u16, total: u32, r: FileRecord) -> bool
     ensures { result ≡ follows_of next total r }
 {
-    if r.number < next {
-        return false;
-    }
-    if 255 < r.number {
-        return false;
-    }
-    if r.start as u32 != total {
-        return false;
-    }
-    whole(r.code, r.length)
+    next <= r.number && r.number <= 255 && u32::from(r.start) == total && whole(r.code, r.length)
 }
 
 // The least number that the first of n records may have, in a table that holds so many: 65,535, which none has, where n is 0 or the table holds fewer.
+#[tactic(auto, unfolding(crate::specs::SurveySteps::first_number))]
 fn first_number(n: usize, held: usize) -> u16
     ensures { result ≡ first_number n held }
 {
-    if n == 0 {
-        return 65535;
-    }
-    if held < n {
-        return 65535;
-    }
-    0
+    if 0 < n && n <= held { 0 } else { 65535 }
 }
 
 // What is seen before the first of them.
+#[tactic(auto, unfolding(crate::specs::SurveySteps::begun_of))]
 pub fn begin(n: usize, held: usize, number: u16) -> Pass
     ensures { result ≡ begun_of n held number }
 {
@@ -94,6 +79,7 @@ pub fn begin(n: usize, held: usize, number: u16) -> Pass
 
 // What is seen with one record more. Each path makes a new struct: one that is handed on would go through memory.
 // The record's fields come one by one: a record that is handed on whole is loaded whole, and taken apart by shifts.
+#[tactic(auto, unfolding(crate::specs::SurveySteps::passed_of))]
 pub fn passed(s: Pass, number: u16, code: u8, start: u16, length: u16) -> Pass
     ensures { result ≡ passed_of s (record { number = number; code = code; start = start; length = length }) }
 {
@@ -114,7 +100,7 @@ pub fn passed(s: Pass, number: u16, code: u8, start: u16, length: u16) -> Pass
         };
     }
     let next = r.number + 1;
-    let total = s.total + (r.length as u32);
+    let total = s.total + u32::from(r.length);
     if r.number == s.number {
         return Pass {
             next,
@@ -135,64 +121,48 @@ pub fn passed(s: Pass, number: u16, code: u8, start: u16, length: u16) -> Pass
     }
 }
 
+#[tactic(auto, unfolding(crate::specs::Survey::lost_of))]
 fn lost(number: u16) -> Seen
     ensures { result ≡ lost_of number }
 {
-    let found = FileRecord {
-        number: 0,
-        code: 0,
-        start: 0,
-        length: 0,
-    };
     Seen {
         sound: false,
         next: 0,
         total: 0,
         number,
-        hit: false,
-        found,
+        found: None,
     }
 }
 
-// What the whole pass tells.
-pub fn conclude(s: Pass) -> Seen
-    ensures { result ≡ concluded_of s }
+// The record that was found.
+fn found(s: Pass) -> Option<FileRecord>
+    ensures { result ≡ found_in s }
 {
-    if 256 < s.next {
-        return lost(s.number);
-    }
-    if 65535 < s.total {
-        return lost(s.number);
-    }
     if s.code == 0 {
-        let found = FileRecord {
-            number: 0,
-            code: 0,
-            start: 0,
-            length: 0,
-        };
-        return Seen {
-            sound: true,
-            next: s.next,
-            total: s.total as u16,
-            number: s.number,
-            hit: false,
-            found,
-        };
+        return None;
     }
-    let found = FileRecord {
+    Some(FileRecord {
         number: s.number,
         code: s.code,
         start: s.start,
         length: s.length,
-    };
+    })
+}
+
+// What the whole pass tells.
+#[tactic(auto, unfolding(crate::specs::SurveySteps::concluded_of))]
+pub fn conclude(s: Pass) -> Seen
+    ensures { result ≡ concluded_of s }
+{
+    if 256 < s.next || 65535 < s.total {
+        return lost(s.number);
+    }
     Seen {
         sound: true,
         next: s.next,
         total: s.total as u16,
         number: s.number,
-        hit: true,
-        found,
+        found: found(s),
     }
 }
 
@@ -200,13 +170,10 @@ pub fn conclude(s: Pass) -> Seen
 pub fn survey(table: &[FileRecord], n: usize, number: u16) -> Seen
     ensures { result ≡ survey_of table.now n number }
 {
-    let m = base::least(n, table.len());
     let mut s = begin(n, table.len(), number);
-    let mut i: usize = 0;
-    while i < m {
-        let r = &table[i];
+    let rows = &table[..n.min(table.len())];
+    for r in rows {
         s = passed(s, r.number, r.code, r.start, r.length);
-        i += 1;
     }
     conclude(s)
 }

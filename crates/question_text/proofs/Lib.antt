@@ -1,1 +1,1 @@
-pub mod QuestionLines
+pub mod QuestionTexts

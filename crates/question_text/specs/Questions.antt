@@ -1,7 +1,6 @@
 -- The texts of the questions by their numbers (docs/QUESTIONS.md; document 01, "Refusals", and the requests of document 02). A new question is a row here and a line of the
 -- code's text. Rows ascend; a number that isn't there has no question.
-use Rattle.std.specs.Prelude.{ℕ, List, [], ◌∷◌}
-use Rattle.std.proofs.Math.Option.{Option}
+use Rattle.std.specs.Prelude.{ℕ, List, [], ◌∷◌, Option}
 use Rattle.base.specs.Chars.{bytes}
 use Rattle.reply_status_text.specs.Texts.{text_in}
 

@@ -2,13 +2,13 @@
 #![tactic(auto)]
 
 ghost use Rattle.std.specs.Prelude.{◌≡◌, ◌+◌, ◌<◌, ◌≤◌, length};
-ghost use Rattle.std.proofs.Math.Option.{some};
 ghost use Rattle.base.specs.Chars.{bytes};
 ghost use Rattle.base.specs.Put.{Wrote};
 ghost use Rattle.reply_status_text.specs.Texts.{Tells};
 ghost use Rattle.reply.specs.Status.{digit as status_digit, in_hex, first, said, status_in, status_text, reply_status, datalog_entry, reply_datalog};
 
-use reply_status_text::{ROOM, StatusText};
+use base::Refusal;
+use reply_status_text::ROOM;
 
 // A small digit.
 fn digit(d: u8) -> u8
@@ -29,66 +29,55 @@ fn lay_hex(out: &mut [u8], at: usize, before: &[u8], b: u8) -> usize
 }
 
 // A status without a text, as a number.
-fn unknown(status: u8, out: &mut [u8]) -> StatusText
-    ensures { Tells (some (in_hex (bytes "Unknown Status (0x") status)) out.old result out.new }
+fn unknown(status: u8, out: &mut [u8]) -> Result<Option<usize>, Refusal>
+    ensures { Tells (Some (in_hex (bytes "Unknown Status (0x") status)) out.old result out.new }
 {
     if out.len() < ROOM {
-        return StatusText::Refused(6);
+        return Err(Refusal::ShortOutput);
     }
-    StatusText::Written(lay_hex(out, 0, b"Unknown Status (0x", status))
+    Ok(Some(lay_hex(out, 0, b"Unknown Status (0x", status)))
 }
 
 // The status F0, with the extended status where the reply has one.
-fn extended(extension: &[u8], out: &mut [u8]) -> StatusText
-    ensures { Tells (said (some 0xF0) (first extension.now)) out.old result out.new }
+fn extended(extension: &[u8], out: &mut [u8]) -> Result<Option<usize>, Refusal>
+    ensures { Tells (said (Some 0xF0) (first extension.now)) out.old result out.new }
 {
-    let text = reply_status_text::pccc_error_text(0xF0, out);
-    if extension.len() == 0 {
-        return text;
-    }
-    match text {
-        StatusText::Nothing => StatusText::Nothing,
-        StatusText::Written(n) => StatusText::Written(lay_hex(
-            out,
-            n,
-            b" (EXT STS 0x",
-            extension[0],
-        )),
-        StatusText::Refused(k) => StatusText::Refused(k),
+    let Some(n) = reply_status_text::pccc_error_text(0xF0, out)? else {
+        return Ok(None);
+    };
+    match extension {
+        [] => Ok(Some(n)),
+        [b, ..] => Ok(Some(lay_hex(out, n, b" (EXT STS 0x", *b))),
     }
 }
 
 // The status in words, by the part of a reply from it on; nothing where it is success.
-fn status_in(part: &[u8], out: &mut [u8]) -> StatusText
+#[tactic(auto, unfolding(crate::specs::Status::status_in))]
+fn status_in(part: &[u8], out: &mut [u8]) -> Result<Option<usize>, Refusal>
     ensures { Tells (status_in part.now) out.old result out.new }
 {
-    if part.len() == 0 {
+    let [status, ..] = part else {
         return reply_status_text::say(b"Unknown Status", out);
-    }
-    let status = part[0];
-    if status == 0 {
-        return StatusText::Nothing;
-    }
-    if status == 0xF0 {
-        return extended(reply_part::data(part), out);
-    }
-    let text = reply_status_text::pccc_error_text(status, out);
-    match text {
-        StatusText::Nothing => unknown(status, out),
-        StatusText::Written(n) => StatusText::Written(n),
-        StatusText::Refused(k) => StatusText::Refused(k),
+    };
+    match *status {
+        0 => Ok(None),
+        0xF0 => extended(reply_part::data(part), out),
+        s => match reply_status_text::pccc_error_text(s, out)? {
+            None => unknown(s, out),
+            said => Ok(said),
+        },
     }
 }
 
 // The status of a raw reply.
-pub fn request_status(raw: &[u8], out: &mut [u8]) -> StatusText
+pub fn request_status(raw: &[u8], out: &mut [u8]) -> Result<Option<usize>, Refusal>
     ensures { Tells (status_text raw.now) out.old result out.new }
 {
     status_in(reply_part::of_raw(raw), out)
 }
 
 // The status of a reply that begins with the requester's id.
-pub fn reply_status(reply: &[u8], out: &mut [u8]) -> StatusText
+pub fn reply_status(reply: &[u8], out: &mut [u8]) -> Result<Option<usize>, Refusal>
     ensures { Tells (reply_status reply.now) out.old result out.new }
 {
     status_in(reply_part::of_reply(reply), out)

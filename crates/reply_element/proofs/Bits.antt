@@ -1,9 +1,10 @@
 -- A bit of a number in two's complement, and of a word or a long.
+use Rattle.std.specs.Prelude.{None, Some, Result, Ok, Err}
 use Prim.Native.Nat.{ℕ, zero, suc, ◌/◌, ◌%◌, ◌^◌, ◌≤◌, ◌<◌, min}
 use mathlib.Core.Path.{◌≡◌, refl, sym, subst, ◌∙◌}
+use mathlib.Core.Logic.{◌⊎◌, inl, inr}
 use mathlib.Core.Bool.{Bool, true, false, not, cond}
 use mathlib.Core.List.{List, [], ◌∷◌}
-use mathlib.Core.Option.{none, some}
 use native.Mathlib.Nat.{div-eq_of_lt}
 use native.Mathlib.Omega.{arith}
 use borrow.Author.Tests.{leb-true, leb-false}
@@ -20,8 +21,9 @@ use Rattle.element_whole.specs.Whole.{signed, joined}
 use Rattle.reply_values_spec.specs.declared.DataType.{DataType}
 use Rattle.reply_values_spec.specs.declared.DataType.TheVariants.{Int, DInt, Real, Ascii, Line, No}
 use Rattle.reply_values_spec.specs.declared.ReplyValue.TheVariants as value
-use Rattle.reply_values_spec.specs.declared.ReadReply.{ReadReply}
-use Rattle.reply_values_spec.specs.declared.ReadReply.TheVariants as reply
+use Rattle.reply_values_spec.specs.declared.ReplyValue.{ReplyValue}
+use Rattle.base.specs.declared.refusal.Refusal.{Refusal}
+use Rattle.base.specs.declared.refusal.Refusal.TheVariants.{UnreadableReply, NoSuchValue}
 use Rattle.reply_values_spec.specs.Values.{Value, bit, value_of, decoded, least, bit_at, bit_of, alone, value_at, asked, reply_of}
 use Rattle.reply_values_spec.proofs.InParts.{too_short, is_decoded}
 
@@ -62,23 +64,23 @@ module _ (z : ℤ) (p : Parted) (n idx : ℕ) (f : SFits w64 z) (e : to_z w64 (o
 
 -- ---- the only value
 module _ (v : Value) (i : ℕ) where
-  past_only : 0 < i → value_at i (v ∷ []) ≡ none
+  past_only : 0 < i → value_at i (v ∷ []) ≡ None
   unfolding value_at
   past_only h = go i h
     where
-      go : (i : ℕ) → 0 < i → value_at i (v ∷ []) ≡ none
+      go : (i : ℕ) → 0 < i → value_at i (v ∷ []) ≡ None
       go zero h = absurd (omega arith)
       go (suc i) h = refl
 
-  the_only : i ≤ 0 → value_at i (v ∷ []) ≡ some v
+  the_only : i ≤ 0 → value_at i (v ∷ []) ≡ Some v
   unfolding value_at
   the_only h = let z : i ≡ 0 = omega arith in rw z
 
 module _ (z : ℤ) (sub i : ℕ) where
-  pub bit_past : 0 < i → reply.Refused 28 ≡ reply_of (asked i 0 (some (bit (bit_at sub z) ∷ [])))
+  pub bit_past : 0 < i → Err NoSuchValue ≡ reply_of (asked i 0 (Some (bit (bit_at sub z) ∷ [])))
   bit_past h = rw (past_only (bit (bit_at sub z)) i h)
 
-  pub bit_only : {b : Bool} {y : ℤ} → i ≤ 0 → SFits w64 z → y ≡ to_z w64 (of_z w64 z) → b ≡ bit_at sub y → reply.Is (value.Bit b) 1 ≡ reply_of (asked i 0 (some (bit (bit_at sub z) ∷ [])))
+  pub bit_only : {b : Bool} {y : ℤ} → i ≤ 0 → SFits w64 z → y ≡ to_z w64 (of_z w64 z) → b ≡ bit_at sub y → Ok (value.Bit b, 1) ≡ reply_of (asked i 0 (Some (bit (bit_at sub z) ∷ [])))
   bit_only h f d e = rw (the_only (bit (bit_at sub z)) i h, e, d, to_z-of_z w64 z f)
 
 -- ---- of a part
@@ -91,33 +93,27 @@ module _ (w : Width) (z : ℤ) (h : hbits w ≤ 63) (f : SFits w z) where
   whole_same = to_z-of_z w64 (to_z w (of_z w z)) whole_cast ∙ to_z-of_z w z f
 
 module _ (p : List ℕ) (sub i : ℕ) (k : DataType) {n : ℕ} (l : n ≡ least k) where
-  pub part_short : length p < n → reply.Refused 27 ≡ reply_of (asked i 0 (alone (bit_of sub (decoded k p))))
+  pub part_short : length p < n → Err UnreadableReply ≡ reply_of (asked i 0 (alone (bit_of sub (decoded k p))))
   part_short h = rw (too_short k p (omega arith))
 
   module _ (h : n ≤ length p) where
     there : decoded k p ≡ value_of k p
     there = is_decoded k p (omega arith)
 
-    pub word_bit : {r : ReadReply} {x : ℕ} {z : ℤ} → k ≡ Int → SFits w16 z → x ≡ number (take 2 (drop 0 p)) → z ≡ signed 0xFFFF x
-        → r ≡ reply_of (asked i 0 (some (bit (bit_at sub (to_z w64 (of_z w64 (to_z w16 (of_z w16 z))))) ∷ []))) → r ≡ reply_of (asked i 0 (alone (bit_of sub (decoded k p))))
-    word_bit {r} {x} {z} e f a b g = g ∙ rw (whole_same w16 z (omega arith) f, b, a, there, e)
+    pub word_bit : {r : Result (ReplyValue × ℕ) Refusal} {x : ℕ} {y z : ℤ} → k ≡ Int → SFits w16 z → x ≡ number (take 2 (drop 0 p)) → z ≡ signed 0xFFFF x → y ≡ to_z w16 (of_z w16 z)
+        → r ≡ reply_of (asked i 0 (Some (bit (bit_at sub (to_z w64 (of_z w64 y))) ∷ []))) → r ≡ reply_of (asked i 0 (alone (bit_of sub (decoded k p))))
+    word_bit {r} {x} {y} {z} e f a b d g = g ∙ rw (d, whole_same w16 z (omega arith) f, b, a, there, e)
 
-    pub long_bit : {r : ReadReply} {x : ℕ} {z : ℤ} → k ≡ DInt → SFits w32 z → x ≡ number (take 4 (drop 0 p)) → z ≡ signed 0xFFFFFFFF x
-        → r ≡ reply_of (asked i 0 (some (bit (bit_at sub (to_z w64 (of_z w64 (to_z w32 (of_z w32 z))))) ∷ []))) → r ≡ reply_of (asked i 0 (alone (bit_of sub (decoded k p))))
-    long_bit {r} {x} {z} e f a b g = g ∙ rw (whole_same w32 z (omega arith) f, b, a, there, e)
+    pub long_bit : {r : Result (ReplyValue × ℕ) Refusal} {x : ℕ} {y z : ℤ} → k ≡ DInt → SFits w32 z → x ≡ number (take 4 (drop 0 p)) → z ≡ signed 0xFFFFFFFF x → y ≡ to_z w32 (of_z w32 z)
+        → r ≡ reply_of (asked i 0 (Some (bit (bit_at sub (to_z w64 (of_z w64 y))) ∷ []))) → r ≡ reply_of (asked i 0 (alone (bit_of sub (decoded k p))))
+    long_bit {r} {x} {y} {z} e f a b d g = g ∙ rw (d, whole_same w32 z (omega arith) f, b, a, there, e)
 
     -- floats and text have no bits
-    bitless : bit_of sub (value_of k p) ≡ none → reply.Refused 27 ≡ reply_of (asked i 0 (alone (bit_of sub (decoded k p))))
+    bitless : bit_of sub (value_of k p) ≡ None → Err UnreadableReply ≡ reply_of (asked i 0 (alone (bit_of sub (decoded k p))))
     bitless e = rw (there, e)
 
-    pub no_float_bit : k ≡ Real → reply.Refused 27 ≡ reply_of (asked i 0 (alone (bit_of sub (decoded k p))))
-    no_float_bit e = bitless (rw e)
-
-    pub no_ascii_bit : k ≡ Ascii → reply.Refused 27 ≡ reply_of (asked i 0 (alone (bit_of sub (decoded k p))))
-    no_ascii_bit e = bitless (rw e)
-
-    pub no_line_bit : k ≡ Line → reply.Refused 27 ≡ reply_of (asked i 0 (alone (bit_of sub (decoded k p))))
-    no_line_bit e = bitless (rw e)
-
-    pub no_bit : k ≡ No → reply.Refused 27 ≡ reply_of (asked i 0 (alone (bit_of sub (decoded k p))))
-    no_bit e = bitless (rw e)
+    pub no_bit : (k ≡ Real) ⊎ ((k ≡ Ascii) ⊎ ((k ≡ Line) ⊎ (k ≡ No))) → Err UnreadableReply ≡ reply_of (asked i 0 (alone (bit_of sub (decoded k p))))
+    no_bit (inl e) = bitless (rw e)
+    no_bit (inr (inl e)) = bitless (rw e)
+    no_bit (inr (inr (inl e))) = bitless (rw e)
+    no_bit (inr (inr (inr e))) = bitless (rw e)

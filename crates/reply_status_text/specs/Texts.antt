@@ -1,10 +1,9 @@
 -- The text of a status code, and what a call answers that has a text to say (document 01, module 4).
-use Rattle.std.specs.Prelude.{ℕ, ◌≡◌, cond, List, [], ◌∷◌, eqb, ltb, length}
-use Rattle.std.proofs.Math.Option.{Option, none, some}
+use Rattle.std.specs.Prelude.{ℕ, ◌≡◌, cond, List, [], ◌∷◌, eqb, ltb, length, Option, None, Some, Result, Ok, Err}
 use Rattle.base.specs.Chars.{bytes}
 use Rattle.base.specs.Outcome.{Outcome, refused, lays, left}
-use Rattle.reply_status_text.specs.declared.StatusText.{StatusText}
-use Rattle.reply_status_text.specs.declared.StatusText.TheVariants as statusText·
+use Rattle.base.specs.declared.refusal.Refusal.{Refusal}
+use Rattle.base.specs.declared.refusal.Refusal.TheVariants.{ShortOutput}
 
 -- "the exact texts of `pccc_error_text`", by status code
 abbrev pub texts : List (ℕ × List ℕ)
@@ -22,8 +21,8 @@ texts =
     ∷ []
 
 abbrev pub text_in : List (ℕ × List ℕ) → ℕ → Option (List ℕ)
-text_in [] status = none
-text_in (row ∷ rows) status = cond (eqb row.0 status) (some row.1) (text_in rows status)
+text_in [] status = None
+text_in (row ∷ rows) status = cond (eqb row.0 status) (Some row.1) (text_in rows status)
 
 -- the text of a status code; most codes have none
 unfoldable pub text_of : ℕ → Option (List ℕ)
@@ -31,21 +30,21 @@ text_of status = text_in texts status
 
 -- what a call does that has a text to say: "status text needs 96", no: 6
 abbrev pub saying : List ℕ → List ℕ → Outcome
-saying text l = cond (ltb (length l) 96) (refused 6) (lays 0 text)
+saying text l = cond (ltb (length l) 96) (refused ShortOutput) (lays 0 text)
 
 -- what it answers, and the memory that it leaves; where there is no text, nothing is done
-abbrev pub status_of : Outcome → StatusText
-status_of (refused n) = statusText·.Refused n
-status_of (lays at bs) = statusText·.Written (length bs)
+abbrev pub status_of : Outcome → Result (Option ℕ) Refusal
+status_of (refused e) = Err e
+status_of (lays at bs) = Ok (Some (length bs))
 
-abbrev pub answer_of : Option (List ℕ) → List ℕ → StatusText
-answer_of none l = statusText·.Nothing
-answer_of (some text) l = status_of (saying text l)
+abbrev pub answer_of : Option (List ℕ) → List ℕ → Result (Option ℕ) Refusal
+answer_of None l = Ok None
+answer_of (Some text) l = status_of (saying text l)
 
 abbrev pub left_of : Option (List ℕ) → List ℕ → List ℕ
-left_of none l = l
-left_of (some text) l = left (saying text l) l
+left_of None l = l
+left_of (Some text) l = left (saying text l) l
 
-pub record Tells (text : Option (List ℕ)) (l : List ℕ) (r : StatusText) (l' : List ℕ) : Type 0 where
+pub record Tells (text : Option (List ℕ)) (l : List ℕ) (r : Result (Option ℕ) Refusal) (l' : List ℕ) : Type 0 where
   pub answer : r ≡ answer_of text l
   pub memory : l' ≡ left_of text l

@@ -1,45 +1,39 @@
 -- What the call says, one law for each answer.
+use Rattle.std.specs.Prelude.{Option, None, Some, Result, Err}
 use Prim.Native.Nat.{ℕ, zero, suc, ◌+◌, ◌-◌, ◌*◌, ◌/◌, ◌%◌, ◌≤◌, ◌<◌, min}
 use mathlib.Core.Path.{◌≡◌, refl, ap, sym, subst, ◌∙◌}
-use mathlib.Core.Bool.{Bool, true, false, not, ◌&&◌, cond, false≢true}
+use mathlib.Core.Bool.{Bool, true, false, ◌&&◌, cond, false≢true}
 use mathlib.Core.List.{List, [], ◌∷◌, map}
-use mathlib.Core.Option.{Option, none, some}
-use native.Mathlib.Nat.{mul-le-mul_right, suc-mul, div-le_self, div-mul-le_self, div-add-mod', mod-lt, lt-div-mul-add}
+use native.Mathlib.Nat.{mul-le-mul_right, suc-mul, div-mul-le_self, div-add-mod', mod-lt, lt-div-mul-add}
 use native.Mathlib.Omega.{arith}
-use borrow.Author.Tests.{leb-true, leb-false, eq-eqb, ne_eqb, not-true, not-false}
+use borrow.Author.Tests.{leb-true, leb-false}
 use lib.Dec.{leb, eqb}
-use mir.Syntax.{w64}
-use mir.Val.{Fits}
 use lib.ListN.{length, take, drop, length-take, length-drop}
 use Rattle.base.proofs.EveryPlace.{both}
 use Rattle.file_type.specs.declared.FileType.{FileType}
 use Rattle.file_type.specs.declared.FileType.TheVariants.{O, I, S, B, T, C, R, N, F, ST, A, L, MG, PD, PLS}
 use Rattle.file_type.specs.Table.{row}
-use Rattle.file_type.proofs.FileTypes.{size_some, size_most}
-use Rattle.address_spec.specs.declared.Address.{Address}
-use Rattle.address_spec.specs.declared.Parsed.{Parsed}
-use Rattle.address_spec.specs.declared.Parsed.TheVariants as parsed
-use Rattle.address_spec.specs.Spelling.{or_zero}
+use Rattle.base.specs.declared.refusal.Refusal.{Refusal}
+use Rattle.base.specs.declared.refusal.Refusal.TheVariants.{UnreadableReply, NoSuchValue}
 use Rattle.address_readings.specs.Readings.{timed}
 use Rattle.reply_values_spec.specs.declared.DataType.{DataType}
 use Rattle.reply_values_spec.specs.declared.DataType.TheVariants.{Int}
-use Rattle.reply_values_spec.specs.declared.ReadReply.{ReadReply}
-use Rattle.reply_values_spec.specs.declared.ReadReply.TheVariants as reply
-use Rattle.reply_values_spec.specs.Values.{Value, word, long, float, bit, text, data_type, value_of, decoded, least, parts, parts_in, collect, at_least_one, alone, bit_of, slice, word_place, bit_value, values_of, values, value_at, one_part, asked, on_address, reply_of, Reads}
+use Rattle.reply_values_spec.specs.declared.ReplyValue.{ReplyValue}
+use Rattle.reply_values_spec.specs.Values.{Value, word, long, float, bit, text, data_type, value_of, decoded, least, parts, parts_in, collect, at_least_one, alone, bit_of, slice, word_place, bit_value, values_of, value_at, one_part, asked, reply_of, Reads}
 use Rattle.reply_values_spec.proofs.InParts.{one_part_lem, is_decoded, has_value, past_last, Collected, each_of, all_of, collected, cut_last}
 
 -- ---- refused, without a store
-refused_27 : (o : Option (List Value)) (i : ℕ) (l : List ℕ) → o ≡ none → Reads (asked i (length l) o) l (reply.Refused 27) l
+refused_27 : (o : Option (List Value)) (i : ℕ) (l : List ℕ) → o ≡ None → Reads (asked i (length l) o) l (Err UnreadableReply) l
 refused_27 o i l e = rw e (record { answer = refl; memory = refl })
 
-refused_28 : (o : Option (List Value)) (vs : List Value) (i : ℕ) (l : List ℕ) → o ≡ some vs → length vs ≤ i → Reads (asked i (length l) o) l (reply.Refused 28) l
+refused_28 : (o : Option (List Value)) (vs : List Value) (i : ℕ) (l : List ℕ) → o ≡ Some vs → length vs ≤ i → Reads (asked i (length l) o) l (Err NoSuchValue) l
 refused_28 o vs i l e h = rw (e, past_last vs i h) (record { answer = refl; memory = refl })
 
 -- ---- in parts
 module _ (k : DataType) (size : ℕ) (s : List ℕ) (i : ℕ) (l : List ℕ) where
-  pub parts_none : length s ≡ 0 → Reads (asked i (length l) (at_least_one (collect (map (decoded k) (parts size s))))) l (reply.Refused 27) l
+  pub parts_none : length s ≡ 0 → Reads (asked i (length l) (at_least_one (collect (map (decoded k) (parts size s))))) l (Err UnreadableReply) l
   unfolding parts_in collect
-  parts_none e = let z : at_least_one (collect (map (decoded k) (parts size s))) ≡ none = rw e in refused_27 _ i l z
+  parts_none e = let z : at_least_one (collect (map (decoded k) (parts size s))) ≡ None = rw e in refused_27 _ i l z
 
   module _ (not_None : length s ≡ 0 → ⊥) (least_size : 1 ≤ size) (most : size ≤ 84) where
     some_there : 0 < length s
@@ -58,36 +52,24 @@ module _ (k : DataType) (size : ℕ) (s : List ℕ) (i : ℕ) (l : List ℕ) whe
     rest : length s - (length s - 1) / size * size ≡ (length s - 1) % size + 1
     rest = omega (arith, div-add-mod' (length s - 1) size, at_last, some_there)
 
-    pub rest_fits : Fits w64 ((length s - 1) % size + 1)
-    rest_fits = record { fits = omega (arith, mod-lt (length s - 1) {m = size} least_size) }
-
-    pub parts_cut : {n : ℕ} → n ≡ least k → (length s - 1) % size + 1 < n → Reads (asked i (length l) (at_least_one (collect (map (decoded k) (parts size s))))) l (reply.Refused 27) l
+    pub parts_cut : {n : ℕ} → n ≡ least k → (length s - 1) % size + 1 < n → Reads (asked i (length l) (at_least_one (collect (map (decoded k) (parts size s))))) l (Err UnreadableReply) l
     parts_cut e h = refused_27 _ i l (ap at_least_one (cut_last k size most ((length s - 1) / size) (length s) s least_size (omega (arith, at_last, some_there)) up_to_last (omega arith) (omega (arith, rest))))
 
     module _ {n : ℕ} (e : n ≡ least k) (h : n ≤ (length s - 1) % size + 1) where
       all_there : Collected (all_of k size (length s) s) (suc ((length s - 1) / size)) (each_of k size s)
       all_there = collected k size most ((length s - 1) / size) (length s) s least_size (omega (arith, at_last, some_there)) up_to_last (omega arith) (omega (arith, rest))
 
-      whole : (vs : List Value) → 0 < length vs → at_least_one (some vs) ≡ some vs
+      whole : (vs : List Value) → 0 < length vs → at_least_one (Some vs) ≡ Some vs
       whole [] q = absurd (omega arith)
       whole (v ∷ vs) q = refl
 
-      there : at_least_one (all_of k size (length s) s) ≡ some all_there.all
+      there : at_least_one (all_of k size (length s) s) ≡ Some all_there.all
       there = ap at_least_one all_there.is ∙ whole all_there.all (omega (arith, all_there.count))
 
-      pub parts_past : (length s - 1) / size < i → Reads (asked i (length l) (at_least_one (collect (map (decoded k) (parts size s))))) l (reply.Refused 28) l
+      pub parts_past : (length s - 1) / size < i → Reads (asked i (length l) (at_least_one (collect (map (decoded k) (parts size s))))) l (Err NoSuchValue) l
       parts_past q = refused_28 _ all_there.all i l there (omega (arith, all_there.count))
 
       module _ (q : i ≤ (length s - 1) / size) where
-        within : i * size ≤ length s - 1
-        within = omega (arith, at_last, mul-le-mul_right {m = i} {n = (length s - 1) / size} size q)
-
-        pub place_fits : Fits w64 (length s) → Fits w64 (i * size)
-        place_fits f = record { fits = omega (arith, within, f.fits) }
-
-        pub count_fits : Fits w64 (length s) → Fits w64 ((length s - 1) / size + 1)
-        count_fits f = record { fits = omega (arith, f.fits, div-le_self (length s - 1) size) }
-
         -- a part before the last one is whole
         part_length : length (take size (drop (i * size) s)) ≡ min size (length s - i * size)
         part_length = length-take size (drop (i * size) s) ∙ ap (min size) (length-drop (i * size) s)
@@ -106,52 +88,29 @@ module _ (k : DataType) (size : ℕ) (s : List ℕ) (i : ℕ) (l : List ℕ) whe
                   let z : suc i * size ≤ length s - 1 = omega (arith, at_last, mul-le-mul_right {m = suc i} {n = (length s - 1) / size} size j) in
                   omega (arith, z, suc-mul i size, mod-lt (length s - 1) {m = size} least_size)
 
-        pub parts_read : {p : List ℕ} {r : ReadReply} {m : List ℕ} → p ≡ take size (drop (i * size) s) → Reads (one_part (length l) ((length s - 1) / size + 1) (value_of k p)) l r m
+        pub parts_read : {p : List ℕ} {r : Result (ReplyValue × ℕ) Refusal} {m : List ℕ} → p ≡ take size (drop (i * size) s) → Reads (one_part (length l) ((length s - 1) / size + 1) (value_of k p)) l r m
             → Reads (asked i (length l) (at_least_one (collect (map (decoded k) (parts size s))))) l r m
         parts_read {p} {r} {m} d w =
             let c : length all_there.all ≡ (length s - 1) / size + 1 = omega (arith, all_there.count) in
             let v : value_at i all_there.all ≡ value_of k p = all_there.its i (omega arith) ∙ ap (decoded k) (sym d) ∙ is_decoded k p (part_least d) in
             let g : least k ≤ length p = part_least d in
             let f : length p ≤ 84 = rw d (omega (arith, length-take size (drop (i * size) s))) in
-            let u : (u : Value) × (value_of k p ≡ some u) = has_value k p (omega arith) in
-            let w' : Reads (one_part (length l) ((length s - 1) / size + 1) (some u.0)) l r m = subst (λ (o : Option Value). Reads (one_part (length l) ((length s - 1) / size + 1) o) l r m) u.1 w in
+            let u : (u : Value) × (value_of k p ≡ Some u) = has_value k p (omega arith) in
+            let w' : Reads (one_part (length l) ((length s - 1) / size + 1) (Some u.0)) l r m = subst (λ (o : Option Value). Reads (one_part (length l) ((length s - 1) / size + 1) o) l r m) u.1 w in
             rw (there, c, v, u.1) w'
 
 -- ---- by the address
-module _ (t : FileType) (sub : ℕ) where
-  pub no_word : {b : Bool} → b ≡ timed t → not b ≡ true → 0 ≡ word_place t sub
-  no_word {b} e h = rw (← e, not-true b h)
-
-  module _ {b : Bool} (e : b ≡ timed t) (h : not b ≡ false) where
-    pub preset : sub ≡ 1 → 2 ≡ word_place t sub
-    preset q = rw (← e, not-false b h, eq-eqb sub 1 q)
-
-    pub accum : (sub ≡ 1 → ⊥) → sub ≡ 2 → 4 ≡ word_place t sub
-    accum p q = rw (← e, not-false b h, ne_eqb sub 1 p, eq-eqb sub 2 q)
-
-    pub a_bit : (sub ≡ 1 → ⊥) → (sub ≡ 2 → ⊥) → 0 ≡ word_place t sub
-    a_bit p q = rw (← e, not-false b h, ne_eqb sub 1 p, ne_eqb sub 2 q)
-
 -- a bit needs no output and changes none
 bit_reads : (sub i room : ℕ) (o : Option Value) (l : List ℕ) → Reads (asked i room (alone (bit_of sub o))) l (reply_of (asked i 0 (alone (bit_of sub o)))) l
 unfolding value_at
-bit_reads sub i room none l = record { answer = refl; memory = refl }
-bit_reads sub zero room (some (word z)) l = record { answer = refl; memory = refl }
-bit_reads sub (suc i) room (some (word z)) l = record { answer = refl; memory = refl }
-bit_reads sub zero room (some (long z)) l = record { answer = refl; memory = refl }
-bit_reads sub (suc i) room (some (long z)) l = record { answer = refl; memory = refl }
-bit_reads sub i room (some (float b)) l = record { answer = refl; memory = refl }
-bit_reads sub i room (some (bit b)) l = record { answer = refl; memory = refl }
-bit_reads sub i room (some (text x)) l = record { answer = refl; memory = refl }
-
--- a bit is asked, and not PRE or ACC
-module _ (t : FileType) (flag : Bool) (sub : ℕ) where
-  pub bit_or_word : {n : ℕ} → flag ≡ true → n ≡ word_place t sub → eqb n 0 ≡ (flag && eqb (word_place t sub) 0)
-  bit_or_word h e = rw (h, e)
-
-  -- the bytes of PRE or ACC
-  pub word_bytes : (s : List ℕ) {n size : ℕ} {p : List ℕ} → flag ≡ true → n ≡ word_place t sub → size ≡ (row t).size → p ≡ take size (drop n s) → p ≡ cond flag (slice (word_place t sub) t s) s
-  word_bytes s h e z d = d ∙ rw (h, z, e)
+bit_reads sub i room None l = record { answer = refl; memory = refl }
+bit_reads sub zero room (Some (word z)) l = record { answer = refl; memory = refl }
+bit_reads sub (suc i) room (Some (word z)) l = record { answer = refl; memory = refl }
+bit_reads sub zero room (Some (long z)) l = record { answer = refl; memory = refl }
+bit_reads sub (suc i) room (Some (long z)) l = record { answer = refl; memory = refl }
+bit_reads sub i room (Some (float b)) l = record { answer = refl; memory = refl }
+bit_reads sub i room (Some (bit b)) l = record { answer = refl; memory = refl }
+bit_reads sub i room (Some (text x)) l = record { answer = refl; memory = refl }
 
 -- PRE and ACC are words
 word_typed : (t : FileType) → timed t ≡ true → data_type t ≡ Int
@@ -189,11 +148,11 @@ word_alone size [] h = none_alone size
 word_alone size (b ∷ w) h = ap (λ (ps : List (List ℕ)). at_least_one (collect (map (decoded Int) ps))) (one_part_lem size (b ∷ w) (omega arith) h) ∙ go (decoded Int (b ∷ w))
   where
     go : (o : Option Value) → at_least_one (collect (o ∷ [])) ≡ alone o
-    go none = refl
-    go (some v) = refl
+    go None = refl
+    go (Some v) = refl
 
 module _ (t : FileType) (flag : Bool) (sub : ℕ) (s : List ℕ) (i : ℕ) (l : List ℕ) {b : Bool} (a : b ≡ (flag && eqb (word_place t sub) 0)) {k : DataType} {size : ℕ} (e : k ≡ data_type t)
-    (z : size ≡ (row t).size) {r : ReadReply} where
+    (z : size ≡ (row t).size) {r : Result (ReplyValue × ℕ) Refusal} where
   pub bit_read : {p : List ℕ} → b ≡ true → p ≡ take size (drop 0 s) → r ≡ reply_of (asked i 0 (alone (bit_of sub (decoded k p)))) → Reads (asked i (length l) (values_of t flag sub s)) l r l
   unfolding values_of bit_value
   bit_read {p} h d f =
@@ -212,19 +171,3 @@ module _ (t : FileType) (flag : Bool) (sub : ℕ) (s : List ℕ) (i : ℕ) (l : 
           let j : data_type t ≡ Int = word_typed t (word_timed t sub q) in
           let n : length (slice (word_place t sub) t s) ≤ (row t).size = omega (arith, length-take (row t).size (drop (word_place t sub) s)) in
           rw (q, d, e, z, j) (word_alone (row t).size (slice (word_place t sub) t s) n)
-
--- `values` of an address is by its type, bit flag and sub-element
-pub by_address : (x : Address) (s : List ℕ) (i : ℕ) (l : List ℕ) {sub : ℕ} {r : ReadReply} {m : List ℕ} → sub ≡ or_zero x.sub_element
-    → Reads (asked i (length l) (values_of x.file_type x.bit sub s)) l r m → Reads (asked i (length l) (values x s)) l r m
-by_address x s i l e w = rw (← e) w
-
-pub element_sized : (t : FileType) {size : ℕ} → size ≡ (row t).size → (1 ≤ size) × (size ≤ 84)
-element_sized t e = (rw e (size_some t), rw e (size_most t))
-
--- ---- 1, 2 and 39
-module _ (s : List ℕ) (i : ℕ) (l : List ℕ) {p q : Parsed} (e : p ≡ q) where
-  pub no_address_lem : (n : ℕ) → p ≡ parsed.Refused n → Reads (on_address q s i (length l)) l (reply.Refused n) l
-  no_address_lem n h = rw (← e, h) (record { answer = refl; memory = refl })
-
-  pub on_address_lem : (x : Address) {r : ReadReply} {m : List ℕ} → p ≡ parsed.Is x → Reads (asked i (length l) (values x s)) l r m → Reads (on_address q s i (length l)) l r m
-  on_address_lem x h w = rw (← e, h) w

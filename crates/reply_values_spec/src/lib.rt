@@ -27,32 +27,17 @@ pub enum ReplyValue {
     Text(usize),
 }
 
-// A value, and how many values the reply has; or the number of the question that was answered with no.
-#[derive(Clone, Copy)]
-pub enum ReadReply {
-    Refused(u8),
-    Is(ReplyValue, usize),
-}
-
 pub fn data_type(t: FileType) -> DataType
     ensures { result ≡ data_type t }
 {
     match t {
-        FileType::O => DataType::Int,
-        FileType::I => DataType::Int,
-        FileType::S => DataType::Int,
-        FileType::B => DataType::Int,
-        FileType::T => DataType::Int,
-        FileType::C => DataType::Int,
-        FileType::R => DataType::DInt,
-        FileType::N => DataType::Int,
+        FileType::O | FileType::I | FileType::S | FileType::B => DataType::Int,
+        FileType::T | FileType::C | FileType::N => DataType::Int,
+        FileType::R | FileType::L => DataType::DInt,
         FileType::F => DataType::Real,
         FileType::ST => DataType::Line,
         FileType::A => DataType::Ascii,
-        FileType::L => DataType::DInt,
-        FileType::MG => DataType::No,
-        FileType::PD => DataType::No,
-        FileType::PLS => DataType::No,
+        FileType::MG | FileType::PD | FileType::PLS => DataType::No,
     }
 }
 
@@ -61,11 +46,9 @@ pub fn least(k: DataType) -> usize
     ensures { result ≡ values_least k }
 {
     match k {
-        DataType::Int => 2,
-        DataType::DInt => 4,
-        DataType::Real => 4,
+        DataType::Int | DataType::Line => 2,
+        DataType::DInt | DataType::Real => 4,
         DataType::Ascii => 0,
-        DataType::Line => 2,
         DataType::No => 85,
     }
 }

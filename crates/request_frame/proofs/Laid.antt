@@ -1,9 +1,10 @@
 -- The parts of a request, one after the other.
-use Prim.Native.Nat.{ℕ, ◌+◌, ◌-◌, ◌/◌, ◌%◌, ◌≤◌, ◌<◌}
+use Prim.Native.Nat.{ℕ, ◌+◌, ◌-◌, ◌≤◌, ◌<◌}
 use mathlib.Core.Path.{◌≡◌, refl, ap, ap₂, sym, ◌∙◌, subst}
+use Rattle.std.specs.Int.{w16, to_le_bytes}
 use mathlib.Core.Bool.{Bool, true, false}
 use mathlib.Core.List.{List, [], ◌∷◌, ◌++◌}
-use native.Mathlib.Nat.{zero-add, mod-eq_of_lt}
+use native.Mathlib.Nat.{zero-add}
 use native.Mathlib.Omega.{arith}
 use borrow.Author.Tests.{lt-ltb, le-ltb, ltb-true, ltb-false}
 use lib.Dec.{ltb}
@@ -47,23 +48,22 @@ module _ (n : ℕ) where
       go false e = let k : 3 ≡ length (address_field n) = long_length (ltb-false n 255 e) in omega arith
 
 module _ {l m : List ℕ} {at r : ℕ} (n : ℕ) where
-  pub field_short : n < 255 → Puts l at (low_first 1 n) r m → Puts l at (address_field n) r m
-  field_short h w = rw (short n h) w
+  pub field_short : {k : ℕ} → k ≡ n → n < 255 → Puts l at (low_first 1 k) r m → Puts l at (address_field n) r m
+  field_short e h w = rw (short n h, ← e) w
 
-  pub field_long : n < 65536 → 255 ≤ n → Puts l at (0xFF ∷ n % 256 ∷ n / 256 ∷ []) r m → Puts l at (address_field n) r m
+  pub field_long : {d : List ℕ} → d ≡ to_le_bytes w16 n → 255 ≤ n → Puts l at (0xFF ∷ get_or d 0 0 ∷ get_or d 1 0 ∷ []) r m → Puts l at (address_field n) r m
   unfolding low_first
-  field_long g h w = let e : n / 256 % 256 ≡ n / 256 = mod-eq_of_lt (omega arith) in rw (long n h) (rw e w)
+  field_long e h w = rw (long n h) (rw e at w)
 
 -- ---- the frame
-pub command_laid : {l m : List ℕ} {r : ℕ} (q : Requestor) (cmd n : ℕ) → length q.vid ≡ 2 → length q.vsn ≡ 4 → n < 65536
-    → Puts l 0 (0x4B ∷ 0x02 ∷ 0x20 ∷ 0x67 ∷ 0x24 ∷ 0x01 ∷ 0x07 ∷ get_or q.vid 0 0 ∷ get_or q.vid 1 0 ∷ get_or q.vsn 0 0 ∷ get_or q.vsn 1 0 ∷ get_or q.vsn 2 0 ∷ get_or q.vsn 3 0 ∷ cmd ∷ 0x00 ∷ n % 256 ∷ n / 256 ∷ []) r m
+pub command_laid : {l m d : List ℕ} {r : ℕ} (q : Requestor) (cmd n : ℕ) → length q.vid ≡ 2 → length q.vsn ≡ 4 → d ≡ to_le_bytes w16 n
+    → Puts l 0 (0x4B ∷ 0x02 ∷ 0x20 ∷ 0x67 ∷ 0x24 ∷ 0x01 ∷ 0x07 ∷ get_or q.vid 0 0 ∷ get_or q.vid 1 0 ∷ get_or q.vsn 0 0 ∷ get_or q.vsn 1 0 ∷ get_or q.vsn 2 0 ∷ get_or q.vsn 3 0 ∷ cmd ∷ 0x00 ∷ get_or d 0 0 ∷ get_or d 1 0 ∷ []) r m
     → Puts l 0 (command_head q cmd n) r m
 unfolding command_head identity low_first
-command_laid {l} {m} {r} q cmd n v w h p =
-    let e : n / 256 % 256 ≡ n / 256 = mod-eq_of_lt (omega arith) in
+command_laid {l} {m} {d} {r} q cmd n v w e p =
     subst (λ (x : List ℕ). Puts l 0 x r m)
-    (ap₂ (λ (x y : List ℕ). (0x4B ∷ 0x02 ∷ 0x20 ∷ 0x67 ∷ 0x24 ∷ 0x01 ∷ 0x07 ∷ []) ++ (x ++ y) ++ (cmd ∷ 0x00 ∷ n % 256 ∷ n / 256 ∷ [])) (sym (two_of q.vid v)) (sym (four_of q.vsn w))
-    ∙ rw e) p
+    (ap₂ (λ (x y : List ℕ). (0x4B ∷ 0x02 ∷ 0x20 ∷ 0x67 ∷ 0x24 ∷ 0x01 ∷ 0x07 ∷ []) ++ (x ++ y) ++ (cmd ∷ 0x00 ∷ low_first 2 n)) (sym (two_of q.vid v)) (sym (four_of q.vsn w)))
+    (rw e at p)
 
 -- ---- lengths
 pub command_length : (q : Requestor) (cmd n : ℕ) → length q.vid ≡ 2 → length q.vsn ≡ 4 → length (command_head q cmd n) ≡ 17
@@ -74,16 +74,13 @@ pub two_length : (fnc size : ℕ) (p : Target) → length (two_addresses fnc siz
 unfolding two_addresses
 two_length fnc size p = simp length-append (omega arith)
 
-pub two_past : (fnc size : ℕ) (p : Target) {l : List ℕ} {at : ℕ} → length l < at → Puts l at (two_addresses fnc size p) at l
-two_past fnc size p h = puts_full (length (two_addresses fnc size p)) refl (omega arith)
-
 module _ (fnc size : ℕ) (p : Target) (f e : ℕ) (ef : (f ≡ length (address_field p.file)) × (f ≤ 3)) (ee : (e ≡ length (address_field p.element)) × (e ≤ 3)) where
   two_count : length (two_addresses fnc size p) ≡ 3 + f + e
   two_count = two_length fnc size p ∙ rw (ef.0, ee.0)
 
   module _ {l : List ℕ} {at : ℕ} where
-    pub two_short : at ≤ length l → length l - at < 3 + f + e → Puts l at (two_addresses fnc size p) at l
-    two_short h g = puts_full (3 + f + e) two_count (omega arith)
+    pub two_short : length l < at + (3 + f + e) → Puts l at (two_addresses fnc size p) at l
+    two_short h = puts_full (3 + f + e) two_count h
 
     pub two_laid : {m k j i : List ℕ} {r s t u : ℕ} → at ≤ length l → 3 + f + e ≤ length l - at
         → Puts l at (fnc ∷ size ∷ []) r m → Puts m r (address_field p.file) s k → Puts k s (p.code ∷ []) t j → Puts j t (address_field p.element) u i

@@ -8,10 +8,7 @@ use crate::{Requestor, Target};
 fn field_len(n: u16) -> usize
     ensures { (result ≡ length (address_field n)) × (result ≤ 3) }
 {
-    if 255 <= n {
-        return 3;
-    }
-    1
+    if 255 <= n { 3 } else { 1 }
 }
 
 pub fn typed_len(p: Target) -> usize
@@ -25,10 +22,9 @@ pub fn address_field(out: &mut [u8], at: usize, n: u16) -> usize
     ensures { Puts out.old at (address_field n) result out.new }
 {
     if n < 255 {
-        return base::put_number(out, at, 1, n as u64);
+        return base::put_number(out, at, 1, u64::from(n));
     }
-    let low = (n % 256) as u8;
-    let high = (n / 256) as u8;
+    let [low, high] = n.to_le_bytes();
     base::put_all(out, at, &[0xFF, low, high])
 }
 
@@ -38,8 +34,7 @@ pub fn command(out: &mut [u8], q: Requestor, cmd: u8, sequence: u16) -> usize
 {
     let vid = q.vid;
     let vsn = q.vsn;
-    let low = (sequence % 256) as u8;
-    let high = (sequence / 256) as u8;
+    let [low, high] = sequence.to_le_bytes();
     let head = [
         0x4B, 0x02, 0x20, 0x67, 0x24, 0x01, 0x07, vid[0], vid[1], vsn[0], vsn[1], vsn[2], vsn[3],
         cmd, 0x00, low, high,
@@ -52,10 +47,7 @@ pub fn two_addresses(out: &mut [u8], at: usize, function: u8, size: u8, p: Targe
     ensures { Puts out.old at (two_addresses function size p) result out.new }
 {
     let n = 3 + field_len(p.file) + field_len(p.element);
-    if out.len() < at {
-        return at;
-    }
-    if out.len() - at < n {
+    if out.len() < at || out.len() - at < n {
         return at;
     }
     let a = base::put_all(out, at, &[function, size]);

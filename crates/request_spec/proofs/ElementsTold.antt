@@ -1,11 +1,11 @@
 -- A read message tells its elements: of two with one requester and one sequence number that are equal, with anything behind them, these are the same.
+use Rattle.std.specs.Prelude.{Some}
 use Prim.Native.Nat.{ℕ, ◌*◌}
 use mathlib.Core.Path.{◌≡◌, ap, sym, ◌∙◌}
 use mathlib.Core.List.{List, ◌++◌}
 use native.Mathlib.Nat.{eq_of_mul-eq-mul_left}
 use native.Mathlib.Omega.{arith}
 use Rattle.file_type.specs.declared.FileType.{FileType}
-use Rattle.file_type.specs.declared.Known.TheVariants as known
 use Rattle.file_type.specs.Table.{row, of_code}
 use Rattle.file_type.proofs.FileTypes.{size_some, own_code}
 use Rattle.address_spec.specs.Elements.{Elements}
@@ -14,7 +14,7 @@ use Rattle.request_frame.proofs.FieldsTold.{Words, typed_told}
 use Rattle.request_spec.specs.Request.{place, read_size, read_message}
 
 pub code_same : (t u : FileType) → (row t).code ≡ (row u).code → t ≡ u
-code_same t u e = let k : known.Is t ≡ known.Is u = own_code t ∙ ap of_code e ∙ sym (own_code u) in cc
+code_same t u e = let k : Some t ≡ Some u = own_code t ∙ ap of_code e ∙ sym (own_code u) in cc
 
 -- equal sizes of one type are equal counts
 count_same : (t u : FileType) (n m : ℕ) → t ≡ u → (row t).size * n ≡ (row u).size * m → n ≡ m

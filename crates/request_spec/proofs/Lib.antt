@@ -1,4 +1,4 @@
 pub mod ElementsTold
-pub mod RequestQuestions
+pub mod RefusalNumbers
 pub mod RequestRows
 pub mod Supplied

@@ -1,5 +1,7 @@
 -- Reads and writes of an address text (document 01, questions 1 to 6 and "Request bytes").
-use Rattle.std.specs.Prelude.{ℕ, ◌-◌, ◌*◌, ◌≡◌, Bool, true, not, ◌&&◌, ◌||◌, cond, List, ◌++◌, leb, ltb, eqb, length}
+use Rattle.std.specs.Prelude.{ℕ, ◌-◌, ◌*◌, ◌≡◌, Bool, true, not, ◌&&◌, ◌||◌, cond, List, ◌++◌, leb, ltb, eqb, length, Result, Ok, Err}
+use Rattle.base.specs.declared.refusal.Refusal.{Refusal}
+use Rattle.base.specs.declared.refusal.Refusal.TheVariants.{BitWithCount, UnsuitableValue, SizeOutOfRange, ShortOutput}
 use Rattle.base.specs.Masks.{bit_mask}
 use Rattle.base.specs.Numbers.{low_first}
 use Rattle.base.specs.Put.{put}
@@ -8,8 +10,6 @@ use Rattle.file_type.specs.declared.FileType.{FileType}
 use Rattle.file_type.specs.declared.FileType.TheVariants.{T, C, ST, A}
 use Rattle.element_text.specs.Text.{ascii_text, string_text}
 use Rattle.address_spec.specs.declared.Address.{Address}
-use Rattle.address_spec.specs.declared.Parsed.{Parsed}
-use Rattle.address_spec.specs.declared.Parsed.TheVariants as parsed
 use Rattle.address_spec.specs.Elements.{Elements, elements_of}
 use Rattle.address_spec.specs.Spelling.{or_zero}
 use Rattle.address_readings.specs.declared.Reading.{Reading}
@@ -17,26 +17,24 @@ use Rattle.address_readings.specs.Readings.{address_in}
 use Rattle.request_frame.specs.RequestFrame.{typed}
 use Rattle.request_frame.specs.declared.Target.{Target}
 use Rattle.request_frame.specs.declared.Requestor.{Requestor}
-use Rattle.request_spec.specs.declared.Request.{Request}
-use Rattle.request_spec.specs.declared.Request.TheVariants as request
 use Rattle.request_spec.specs.declared.WriteValue.{WriteValue}
 use Rattle.request_spec.specs.declared.WriteValue.TheVariants as value
 
--- what a request builder does: a refusal by its number, or the address and the message
+-- what a request builder does: a refusal, or the address and the message
 pub data Asked : Type 0 where
-  refused : ℕ → Asked
+  refused : Refusal → Asked
   sends : Address → List ℕ → Asked
 
-abbrev pub request_of : Asked → Request
-request_of (refused n) = request.Refused n
-request_of (sends x bs) = request.Built x (length bs)
+abbrev pub request_of : Asked → Result (Address × ℕ) Refusal
+request_of (refused e) = Err e
+request_of (sends x bs) = Ok (x, length bs)
 
 -- "A numbered refusal .. changes no lent memory. A success writes its stated bytes and nothing behind them."
 abbrev pub left : Asked → List ℕ → List ℕ
-left (refused n) l = l
+left (refused e) l = l
 left (sends x bs) l = put l 0 bs
 
-pub record Builds (o : Asked) (l : List ℕ) (r : Request) (l' : List ℕ) : Type 0 where
+pub record Builds (o : Asked) (l : List ℕ) (r : Result (Address × ℕ) Refusal) (l' : List ℕ) : Type 0 where
   pub answer : r ≡ request_of o
   pub now : l' ≡ left o l
 
@@ -60,15 +58,15 @@ read_message q sequence e = typed q sequence 0xA2 (read_size e) (place e e.posit
 -- 3, 5 and 6, put to the address
 unfoldable pub read_address : Requestor → ℕ → ℕ → Address → Asked
 read_address q sequence room x =
-    cond (bit_and_count x) (refused 3)
+    cond (bit_and_count x) (refused BitWithCount)
     (cond (leb (read_size (elements_of x)) 255)
-    (cond (leb 27 room) (sends x (read_message q sequence (elements_of x))) (refused 6))
-    (refused 5))
+    (cond (leb 27 room) (sends x (read_message q sequence (elements_of x))) (refused ShortOutput))
+    (refused SizeOutOfRange))
 
 -- the answer of the address reader, and what is done with an address
-unfoldable pub on_address : Parsed → (Address → Asked) → Asked
-on_address (parsed.Refused n) f = refused n
-on_address (parsed.Is x) f = f x
+unfoldable pub on_address : Result Address Refusal → (Address → Asked) → Asked
+on_address (Err e) f = refused e
+on_address (Ok x) f = f x
 
 -- "read (`read_request`: 1, 2, 3, 5, 6)"; A12: "Every call that takes a tag .. is told which of the two readings holds", "39 .. right after 2"
 abbrev pub reading : List ℕ → Reading → Requestor → ℕ → List ℕ → Asked
@@ -124,12 +122,12 @@ write_message q sequence x d = typed q sequence 0xAB (length d - 2) (place (elem
 -- "5. Is the size field 0 to 255? For raw bytes: are there 2 to 257?"; "6. Has the output at least .. for a write 284?"
 unfoldable pub write_data : Requestor → ℕ → ℕ → Address → List ℕ → Asked
 write_data q sequence room x d =
-    cond (leb 2 (length d) && leb (length d) 257) (cond (leb 284 room) (sends x (write_message q sequence x d)) (refused 6)) (refused 5)
+    cond (leb 2 (length d) && leb (length d) 257) (cond (leb 284 room) (sends x (write_message q sequence x d)) (refused ShortOutput)) (refused SizeOutOfRange)
 
 -- 3 to 6, put to the address
 unfoldable pub write_address : WriteValue → List ℕ → Requestor → ℕ → ℕ → Address → Asked
 write_address v s q sequence room x =
-    cond (bit_and_count x) (refused 3) (cond (suits v x) (write_data q sequence room x (supplied v s x)) (refused 4))
+    cond (bit_and_count x) (refused BitWithCount) (cond (suits v x) (write_data q sequence room x (supplied v s x)) (refused UnsuitableValue))
 
 -- "write (`write_request`: 1 to 6)"; A12 as above
 abbrev pub writing : List ℕ → Reading → WriteValue → List ℕ → Requestor → ℕ → List ℕ → Asked

@@ -1,24 +1,24 @@
 -- The requests without an address text (document 01, questions 6 and 26, "Request bytes" and module 3).
-use Rattle.std.specs.Prelude.{ℕ, ◌≡◌, cond, List, [], ◌∷◌, ◌++◌, leb, length}
+use Rattle.std.specs.Prelude.{ℕ, ◌≡◌, cond, List, [], ◌∷◌, ◌++◌, leb, length, Result, Ok, Err}
 use Rattle.base.specs.Outcome.{Outcome, refused, lays, left}
+use Rattle.base.specs.declared.refusal.Refusal.{Refusal}
+use Rattle.base.specs.declared.refusal.Refusal.TheVariants.{ShortOutput, OffsetOutOfRange}
 use Rattle.directory_sys0.specs.declared.Sys0Info.{Sys0Info}
 use Rattle.request_frame.specs.RequestFrame.{command_head, two_addresses}
 use Rattle.request_frame.specs.declared.Requestor.{Requestor}
-use Rattle.request_untagged.specs.declared.Message.{Message}
-use Rattle.request_untagged.specs.declared.Message.TheVariants as message
 
-abbrev pub message_of : Outcome → Message
-message_of (refused n) = message.Refused n
-message_of (lays at bs) = message.Written (length bs)
+abbrev pub message_of : Outcome → Result ℕ Refusal
+message_of (refused e) = Err e
+message_of (lays at bs) = Ok (length bs)
 
 -- what a builder answers and leaves in the lent memory
-pub record Builds (o : Outcome) (l : List ℕ) (r : Message) (l' : List ℕ) : Type 0 where
+pub record Builds (o : Outcome) (l : List ℕ) (r : Result ℕ Refusal) (l' : List ℕ) : Type 0 where
   pub answer : r ≡ message_of o
   pub now : l' ≡ left o l
 
 -- "6. Has the output at least 27 bytes ..? (added; the other request builders also need 27 ..) no: 6"
 unfoldable pub sent : List ℕ → List ℕ → Outcome
-sent bs out = cond (leb 27 (length out)) (lays 0 bs) (refused 6)
+sent bs out = cond (leb 27 (length out)) (lays 0 bs) (refused ShortOutput)
 
 -- "CMD 0x06 with function 0x03"
 unfoldable pub processor_type : Requestor → ℕ → List ℕ → Outcome
@@ -41,4 +41,4 @@ unfoldable pub directory_read : ℕ → ℕ → ℕ → Requestor → ℕ → Li
 directory_read type offset size q sequence out =
     cond (leb offset 65535)
     (sent (command_head q 0x0F sequence ++ two_addresses 0xA1 size (record { file = 0; code = type; element = offset; sub = 0 })) out)
-    (refused 26)
+    (refused OffsetOutOfRange)

@@ -26,7 +26,7 @@ pub extern "C" fn slc_file_directory_size_request(
 ) -> SlcWritten
     ensures { Sends (directory_size info q sequence out.old) out.old result out.new }
 {
-    link_texts::message_record(request_untagged::file_directory_size_request(
+    link_texts::written_record(request_untagged::file_directory_size_request(
         info, q, sequence, out,
     ))
 }
@@ -42,7 +42,7 @@ pub extern "C" fn slc_file_directory_read_request(
 ) -> SlcWritten
     ensures { Sends (directory_read file_type offset size q sequence out.old) out.old result out.new }
 {
-    link_texts::message_record(request_untagged::file_directory_read_request(
+    link_texts::written_record(request_untagged::file_directory_read_request(
         file_type, offset, size, q, sequence, out,
     ))
 }
@@ -70,5 +70,5 @@ pub extern "C" fn slc_parse_file_directory(
 ) -> SlcWritten
     ensures { Lists (listed file_position row_size bytes.now (length out.old)) out.old result out.new }
 {
-    link_texts::listed_record(directory::parse_file_directory(file_position, row_size, bytes, out))
+    link_texts::written_record(directory::parse_file_directory(file_position, row_size, bytes, out))
 }

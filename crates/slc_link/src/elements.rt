@@ -3,7 +3,8 @@ ghost use Rattle.std.specs.Prelude.{length};
 ghost use Rattle.file_type.specs.Table.{of_code};
 ghost use Rattle.link_elements.specs.ElementRecords.{StoresInNumbers, ReadsInNumbers, encoded_in, decoded_in};
 
-use file_type::{FileType, Known};
+use base::Refusal;
+use file_type::FileType;
 use link_elements::{SlcElement, SlcValue};
 
 // Sets an element; `text` is the text of A and ST, or the name of the field. 19 to 23 where it is refused.
@@ -16,10 +17,9 @@ pub extern "C" fn slc_encode_element(
 ) -> u8
     ensures { StoresInNumbers (encoded_in (of_code code) value text.now element.old) element.old result element.new }
 {
-    let k = FileType::from_code(code);
-    match k {
-        Known::Is(t) => link_elements::encode_element(t, value, text, element),
-        Known::Unknown => 19,
+    match FileType::from_code(code) {
+        Some(t) => link_elements::encode_element(t, value, text, element),
+        None => link_elements::stored_number(Err(Refusal::NoSuchElement)),
     }
 }
 
@@ -28,9 +28,8 @@ pub extern "C" fn slc_encode_element(
 pub extern "C" fn slc_decode_element(code: u8, element: &[u8], text: &mut [u8]) -> SlcElement
     ensures { ReadsInNumbers (decoded_in (of_code code) element.now (length text.old)) text.old result text.new }
 {
-    let k = FileType::from_code(code);
-    match k {
-        Known::Is(t) => link_elements::decode_element(t, element, text),
-        Known::Unknown => link_elements::refusal(19),
+    match FileType::from_code(code) {
+        Some(t) => link_elements::decode_element(t, element, text),
+        None => link_elements::numbers_of(Err(Refusal::NoSuchElement)),
     }
 }

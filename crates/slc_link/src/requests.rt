@@ -9,7 +9,6 @@ ghost use Rattle.link_requests.specs.RequestRecords.{address_record, Asks};
 ghost use Rattle.link_texts.specs.WrittenRecords.{Dots, Sends};
 ghost use Rattle.request_spec.specs.Request.{reading as request_reading};
 
-use link_requests::kinds::WriteKind;
 use link_requests::requests::{SlcAddress, SlcRequest};
 use link_requests::{kinds, requests as records};
 use link_texts::SlcWritten;
@@ -26,7 +25,7 @@ pub extern "C" fn slc_parse_tag(tag: &[u8], reading: u8) -> SlcAddress
 pub extern "C" fn slc_dotted(tag: &[u8], out: &mut [u8]) -> SlcWritten
     ensures { Dots (dotting tag.now out.old) out.old result out.new }
 {
-    link_texts::dotted_record(address_dotted::dotted(tag, out))
+    link_texts::written_record(address_dotted::dotted(tag, out))
 }
 
 #[unsafe(no_mangle)]
@@ -68,12 +67,11 @@ pub extern "C" fn slc_write_request(
     ensures { Asks (writing_kind (kind_of kind) tag.now (reading_of reading) bytes.now q sequence out.old) out.old result out.new }
 {
     let r = kinds::reading_of(reading);
-    let k = kinds::kind_of(kind);
-    match k {
-        WriteKind::Is(v) => records::request_record(request::write_request(
+    match kinds::kind_of(kind) {
+        Some(v) => records::request_record(request::write_request(
             tag, r, v, bytes, q, sequence, out,
         )),
-        WriteKind::Unknown => records::request_record(kinds::unsuited(tag, r)),
+        None => records::request_record(kinds::unsuited(tag, r)),
     }
 }
 
@@ -85,12 +83,12 @@ pub extern "C" fn slc_processor_type_request(
 ) -> SlcWritten
     ensures { Sends (processor_type q sequence out.old) out.old result out.new }
 {
-    link_texts::message_record(request_untagged::processor_type_request(q, sequence, out))
+    link_texts::written_record(request_untagged::processor_type_request(q, sequence, out))
 }
 
 #[unsafe(no_mangle)]
 pub extern "C" fn slc_datalog_request(queue: u8, out: &mut [u8]) -> SlcWritten
     ensures { Sends (datalog queue out.old) out.old result out.new }
 {
-    link_texts::message_record(request_untagged::datalog_request(queue, out))
+    link_texts::written_record(request_untagged::datalog_request(queue, out))
 }

@@ -24,9 +24,7 @@ pub extern "C" fn slc_new(
 ) -> SlcBuilt
     ensures { Raises (new_of (plan_of files.now text.now log.now count) table.old memory.old) result table.new memory.new }
 {
-    let j = processor_build::judge(files, text, log, count, table.len(), memory.len());
-    processor_new::lay(table, files, j.records);
-    link_processor::finish(j, text, count, memory)
+    link_processor::built_of(processor_new::new(table, memory, log, count, files, text))
 }
 
 // Answers a command: 16 to 18 where it is refused.
@@ -41,14 +39,7 @@ pub extern "C" fn slc_pccc(
 ) -> SlcDone
     ensures { SaysInNumbers slc table.now memory.old log.now command.now reply.old result memory.new reply.new }
 {
-    let q = processor_query::asked(slc, command);
-    let s = processor_table::survey(table, slc.files, q.number);
-    if q.directory {
-        let d = processor_directory::directory(table, slc.files, q, s);
-        link_processor::show(slc, s, q, d, memory, log, command, reply)
-    } else {
-        link_processor::respond(slc, s, q, memory, log, command, reply)
-    }
+    link_processor::done_of(processor::pccc(slc, table, memory, log, command, reply))
 }
 
 // Reads an element; text is written to the lent memory, which needs 82 bytes for it. 16, 19 or 24 where it is refused.

@@ -9,7 +9,7 @@ use link_texts::SlcWritten;
 pub extern "C" fn slc_string_swap(bytes: &[u8], out: &mut [u8]) -> SlcWritten
     ensures { Swaps (padded_swap bytes.now) out.old result out.new }
 {
-    link_texts::swapped_record(element_text::slc_string_swap(bytes, out))
+    link_texts::written_record(element_text::slc_string_swap(bytes, out))
 }
 
 #[unsafe(no_mangle)]

@@ -1,43 +1,29 @@
 -- What was read goes through the line machine byte by byte: behind each call of `feed`, the rest of it leaves the line that all of it leaves.
-use Prim.Native.Nat.{ℕ, ◌+◌, ◌-◌, ◌≤◌, ◌<◌}
-use mathlib.Core.Bool.{Bool, true, false}
+use Prim.Native.Nat.{ℕ, ◌-◌}
 use mathlib.Core.Path.{◌≡◌, ap, sym, ◌∙◌}
-use mathlib.Core.List.{List}
+use mathlib.Core.List.{List, [], ◌∷◌}
 use native.Mathlib.Omega.{arith}
-use lib.ListN.{length, take, drop, length-take, length-drop, take-append-drop, drop_of_length-le}
-use lib.Seq.{drop-drop, take_all}
+use lib.ListN.{length, take, drop, length-drop, take-append-drop}
+use lib.Seq.{take_all}
 use Rattle.tags_stream.specs.Pieces.{rest, held, kept_by, Feeds}
 use Rattle.tags_stream.specs.declared.Line.{Line}
 use Rattle.tags_stream.specs.declared.Fed.{Fed}
 use Rattle.tags_stream.proofs.Cuts.{rest_append, rest_held}
 use Rattle.tags_stream.proofs.Onward.{kept_keeping}
 
-module _ (input out : List ℕ) (at : ℕ) {line : Line} {out' : List ℕ} {r : Fed} (f : Feeds line (take (length input - at) (drop at input)) out r out') (h : at < length input) where
-  left : length (take (length input - at) (drop at input)) ≡ length input - at
-  left = simp (length-take, length-drop) (omega arith)
+pub feed_keeps : {left out out' : List ℕ} {line : Line} {r : Fed} → Feeds line left out r out' → (l : List ℕ) → held (rest (kept_by line) left) ≡ held l
+    → held (rest (kept_by r.line) (take (length left - r.taken) (drop r.taken left))) ≡ held l
+feed_keeps {left} {line = line} {r} f l e =
+    let a = take r.taken left in
+    let b = drop r.taken left in
+    let k : kept_by r.line ≡ held (rest (kept_by line) a) = ap kept_by f.keeps ∙ kept_keeping (rest (kept_by line) a) in
+    ap (λ (x : List ℕ). held (rest (kept_by r.line) x)) (take_all (length left - r.taken) b (omega (arith, length-drop r.taken left)))
+    ∙ ap (λ (x : List ℕ). held (rest x b)) k
+    ∙ rest_held (rest (kept_by line) a) b
+    ∙ ap held (sym (rest_append (kept_by line) a b) ∙ ap (rest (kept_by line)) (take-append-drop r.taken left))
+    ∙ e
 
-  pub feed_within : at + r.taken ≤ length input
-  feed_within = omega (arith, f.taken, left)
-
-  pub feed_forward : 64 ≤ length out → length input - (at + r.taken) < length input - at
-  feed_forward k = omega (arith, f.taken, left)
-
-  pub feed_keeps : (l : List ℕ) → held (rest (kept_by line) (drop at input)) ≡ held l → held (rest (kept_by r.line) (drop (at + r.taken) input)) ≡ held l
-  feed_keeps l e =
-      let s = drop at input in
-      let p : take (length input - at) s ≡ s = take_all (length input - at) s (simp length-drop (omega arith)) in
-      let a = take r.taken s in
-      let k : kept_by r.line ≡ held (rest (kept_by line) a) = ap kept_by f.keeps ∙ kept_keeping (rest (kept_by line) (take r.taken (take (length input - at) s))) ∙ ap (λ (x : List ℕ). held (rest (kept_by line) (take r.taken x))) p in
-      let b : drop (at + r.taken) input ≡ drop r.taken s = sym (drop-drop r.taken at input) in
-      ap (λ (x : List ℕ). held (rest (kept_by r.line) x)) b
-      ∙ ap (λ (x : List ℕ). held (rest x (drop r.taken s))) k
-      ∙ rest_held (rest (kept_by line) a) (drop r.taken s)
-      ∙ ap held (sym (rest_append (kept_by line) a (drop r.taken s)) ∙ ap (rest (kept_by line)) (take-append-drop r.taken s))
-      ∙ e
-
-pub all_read : (input l k : List ℕ) (at : ℕ) → length input ≤ at → held (rest k (drop at input)) ≡ held l → held k ≡ held l
+pub all_read : (left l k : List ℕ) → length left ≡ 0 → held (rest k left) ≡ held l → held k ≡ held l
 unfolding rest
-all_read input l k at h e = ap (λ (x : List ℕ). held (rest k x)) (sym (drop_of_length-le input h)) ∙ e
-
-pub shut : {b : Bool} {l k : List ℕ} → b ≡ false → b ≡ true → l ≡ k
-shut e f = absurd (let z : ◌≡◌ {A = ℕ} 0 1 = cc in omega arith)
+all_read [] l k h e = e
+all_read (b ∷ s) l k h e = absurd (omega arith)

@@ -2,6 +2,7 @@
 -- doesn't), default requester, sequence 0, and prints capital hexadecimal or `refused` and the number.").
 use Rattle.std.specs.Prelude.{ℕ, List, [], ◌∷◌, ◌++◌, cond, eqb}
 use Rattle.base.specs.Chars.{bytes}
+use Rattle.base.specs.Refusals.{number_of}
 use Rattle.text.specs.Hex.{hex}
 use Rattle.text.specs.Line.{before}
 use Rattle.decimal.specs.Decimals.{decimal}
@@ -22,7 +23,7 @@ asked tag = on_address (address_in New tag) (read_address default_requestor 0 27
 
 -- "prints capital hexadecimal or `refused` and the number"
 unfoldable pub answer : Asked → List ℕ
-answer (refused n) = bytes "refused " ++ (decimal n ++ (10 ∷ []))
+answer (refused e) = bytes "refused " ++ (decimal (number_of e) ++ (10 ∷ []))
 answer (sends x message) = hex message ++ (10 ∷ [])
 
 -- an answer for each line, in their order

@@ -9,16 +9,16 @@ ghost use Rattle.tags_line.specs.Lines.{answer as lines_answer};
 ghost use Rattle.tags_line.specs.Answered.{Answered};
 
 use address_readings::Reading;
-use request::Request;
+use base::Refusal;
 use request_frame::Requestor;
 
 // `refused` and the number.
-fn put_refused(out: &mut [u8], at: usize, n: u8) -> usize
-    ensures { Puts out.old at (lines_answer (refused n)) result out.new }
+fn put_refused(out: &mut [u8], at: usize, e: Refusal) -> usize
+    ensures { Puts out.old at (lines_answer (refused e)) result out.new }
 {
     let mut line = [0u8; 12];
     let a = base::put_all(&mut line, 0, b"refused ");
-    let b = decimal::put_decimal(&mut line, a, n as u64);
+    let b = decimal::put_decimal(&mut line, a, u64::from(e.number()));
     let c = base::put_all(&mut line, b, b"\n");
     base::put_all(out, at, &line[..c])
 }
@@ -27,10 +27,7 @@ fn put_refused(out: &mut [u8], at: usize, n: u8) -> usize
 fn put_message(out: &mut [u8], at: usize, message: &[u8]) -> usize
     ensures { Puts out.old at (hex message.now ++ (10 ∷ [])) result out.new }
 {
-    if out.len() <= at {
-        return at;
-    }
-    if (out.len() - at - 1) / 2 < message.len() {
+    if out.len() <= at || (out.len() - at - 1) / 2 < message.len() {
         return at;
     }
     let a = text::put_hex(out, at, message);
@@ -42,9 +39,8 @@ pub fn answer(tag: &[u8], out: &mut [u8], at: usize) -> usize
     ensures { Answered tag.now out.old at result out.new }
 {
     let mut message = [0u8; 27];
-    let asked = request::read_request(tag, Reading::New, Requestor::default(), 0, &mut message);
-    match asked {
-        Request::Refused(n) => put_refused(out, at, n),
-        Request::Built(_, n) => put_message(out, at, &message[..n]),
+    match request::read_request(tag, Reading::New, Requestor::default(), 0, &mut message) {
+        Err(e) => put_refused(out, at, e),
+        Ok((_, n)) => put_message(out, at, &message[..n]),
     }
 }

@@ -8,6 +8,7 @@ use lib.Dec.{eqb}
 use lib.ListN.{length, take, length-append, length-take}
 use lib.Seq.{take-append-le, take_all}
 use borrow.Author.Tests.{lt-leb}
+use Rattle.base.specs.declared.refusal.Refusal.TheVariants.{MalformedTag}
 use Rattle.address_spec.specs.Spelling.{address_of}
 use Rattle.address_readings.specs.Readings.{retired, address_in}
 use Rattle.request_spec.specs.Request.{refused, on_address}
@@ -15,7 +16,7 @@ use Rattle.tags_line.specs.Lines.{asked, answer, answers}
 use Rattle.tags_stream.specs.Pieces.{ended, rest, held}
 
 -- a line of more than 255 bytes, whatever they are
-pub long : (l : List ℕ) → 255 < length l → asked l ≡ refused 1
+pub long : (l : List ℕ) → 255 < length l → asked l ≡ refused MalformedTag
 unfolding asked address_in retired address_of on_address
 long l h = rw (lt-leb (length l) 255 h)
 

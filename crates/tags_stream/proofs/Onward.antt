@@ -7,7 +7,7 @@ use lib.Dec.{leb}
 use native.Mathlib.Numerals.{add-one}
 use native.Mathlib.Nat.{zero-add, add-zero}
 use native.Mathlib.Omega.{arith}
-use lib.ListN.{length, take, drop, get_or, set, replicate, length-take, drop_of_length-le}
+use lib.ListN.{length, take, drop, get_or, set, replicate, length-take, length-set, drop_of_length-le}
 use lib.Seq.{take-suc-set, length-take-le, take_all}
 use borrow.Author.Tests.{eq-eqb, ne_eqb, leb-true, leb-false, le-leb, lt-leb}
 use Rattle.base.specs.Put.{put, Wrote, Laid, laid, Puts}
@@ -18,7 +18,6 @@ use Rattle.tags_stream.specs.Pieces.{ended, rest, last, held, keeping, kept_by, 
 use Rattle.tags_line.specs.Answered.{Answered}
 use Rattle.tags_stream.specs.FeedSteps.{Onward, Stepped, Ran}
 use Rattle.tags_stream.specs.declared.Line.{Line}
-use Rattle.tags_stream.specs.declared.Went.{Went}
 use Rattle.tags_stream.proofs.Long.{long_same, held_held}
 
 -- ---- a part from the start, as it is lent
@@ -64,12 +63,19 @@ module _ (l s : List ℕ) (b : ℕ) where
     unfolding rest
     rest_byte = rw (ne_eqb b 10 h)
 
-module _ (b : ℕ) (bytes out : List ℕ) (n u : ℕ) (room : u + 64 ≤ length out) where
-  pub step_line : {out' : List ℕ} {next : ℕ} → b ≡ 10 → Answered (take n bytes) out u next out' → Stepped b bytes n out u (record { kept = 0; used = next }) bytes out'
+module _ (b : ℕ) (line : Line) (out : List ℕ) (u : ℕ) (room : u + 64 ≤ length out) where
+  abbrev bytes : List ℕ
+  bytes = line.bytes
+
+  abbrev n : ℕ
+  n = line.kept
+
+  pub step_line : {out' : List ℕ} {next : ℕ} → b ≡ 10 → Answered (take n bytes) out u next out' → Stepped b line out u next (record { bytes = bytes; kept = 0 }) out'
   step_line {out'} {next} h a =
       let k : u + length (answer (asked (take n bytes))) ≤ length out = omega (arith, a.most) in
       let w : Wrote out u (answer (asked (take n bytes))) next out' = puts_wrote a.puts k in
       record {
+        long = refl;
         holds = omega arith;
         most = omega (arith, w.end, a.most);
         same = λ s. record {
@@ -78,10 +84,11 @@ module _ (b : ℕ) (bytes out : List ℕ) (n u : ℕ) (room : u + 64 ≤ length 
         };
       }
 
-  pub step_byte : (b ≡ 10 → ⊥) → length bytes ≡ 256 → n < length bytes → Stepped b bytes n out u (record { kept = n + 1; used = u }) (set bytes n b) out
+  pub step_byte : (b ≡ 10 → ⊥) → length bytes ≡ 256 → n < 256 → Stepped b line out u u (record { bytes = set bytes n b; kept = n + 1 }) out
   step_byte h len k =
-      let e : take (n + 1) (set bytes n b) ≡ take n bytes ++ (b ∷ []) = rw add-one (take-suc-set bytes n b k) in
+      let e : take (n + 1) (set bytes n b) ≡ take n bytes ++ (b ∷ []) = rw add-one (take-suc-set bytes n b (omega arith)) in
       record {
+        long = length-set bytes n b;
         holds = omega arith;
         most = omega arith;
         same = λ s. onward_same (take n bytes) (b ∷ s) (take (n + 1) (set bytes n b)) s out u
@@ -89,11 +96,12 @@ module _ (b : ℕ) (bytes out : List ℕ) (n u : ℕ) (room : u + 64 ≤ length 
             (ap (λ (x : List ℕ). held (rest x s)) e ∙ ap held (sym (rest_byte (take n bytes) s b h)));
       }
 
-  pub step_full : (b ≡ 10 → ⊥) → length bytes ≡ 256 → n ≤ 256 → length bytes ≤ n → Stepped b bytes n out u (record { kept = n; used = u }) bytes out
+  pub step_full : (b ≡ 10 → ⊥) → length bytes ≡ 256 → n ≤ 256 → 256 ≤ n → Stepped b line out u u line out
   step_full h len f g =
       let e : length (take n bytes) ≡ n = length-take-le n bytes (omega arith) in
       let k : 255 < length (take n bytes) = omega arith in
       record {
+        long = refl;
         holds = f;
         most = omega arith;
         same = λ s. (let x = long_same (take n bytes) k (b ∷ []) s in
@@ -103,29 +111,29 @@ module _ (b : ℕ) (bytes out : List ℕ) (n u : ℕ) (room : u + 64 ≤ length 
       }
 
 -- ---- a piece
-module _ (piece bytes₀ out₀ bytes out : List ℕ) (n i : ℕ) (w : Went) where
-  pub run_turn : {bytes' out' : List ℕ} (r : Went) → i < length piece
-      → Onward (take n bytes₀) piece out₀ 0 (take w.kept bytes) (drop i piece) out w.used
-      → Stepped (get_or piece i 0) bytes w.kept out w.used r bytes' out'
-      → Onward (take n bytes₀) piece out₀ 0 (take r.kept bytes') (drop (i + 1) piece) out' r.used
-  run_turn {bytes'} {out'} r h a t =
+module _ (piece out₀ out : List ℕ) (line₀ line : Line) (i u : ℕ) where
+  pub run_turn : {out' : List ℕ} {line' : Line} {r : ℕ} → i < length piece
+      → Onward (kept_by line₀) piece out₀ 0 (kept_by line) (drop i piece) out u
+      → Stepped (get_or piece i 0) line out u r line' out'
+      → Onward (kept_by line₀) piece out₀ 0 (kept_by line') (drop (i + 1) piece) out' r
+  run_turn {out'} {line'} {r} h a t =
       onward_then
-      (subst (λ (x : List ℕ). Onward (take n bytes₀) piece out₀ 0 (take w.kept bytes) x out w.used) (drop_next piece i h) a)
+      (subst (λ (x : List ℕ). Onward (kept_by line₀) piece out₀ 0 (kept_by line) x out u) (drop_next piece i h) a)
       (t.same (drop (i + 1) piece))
 
-  pub run_done : length piece ≤ i → i ≤ length piece → w.kept ≤ 256 → w.used ≤ 64 * i → 64 * length piece ≤ length out₀ → length bytes ≡ length bytes₀ → length bytes₀ ≡ 256
-      → Onward (take n bytes₀) piece out₀ 0 (take w.kept bytes) (drop i piece) out w.used
-      → Ran piece bytes₀ n out₀ w bytes out
+  pub run_done : length piece ≤ i → i ≤ length piece → line.kept ≤ 256 → u ≤ 64 * i → 64 * length piece ≤ length out₀ → length line.bytes ≡ 256
+      → Onward (kept_by line₀) piece out₀ 0 (kept_by line) (drop i piece) out u
+      → Ran piece line₀ out₀ u line out
   unfolding ended rest answers held
-  run_done h g k f z x y a =
+  run_done h g k f z x a =
       let d : drop i piece ≡ [] = drop_of_length-le piece h in
-      let b : Onward (take n bytes₀) piece out₀ 0 (take w.kept bytes) [] out w.used = subst (λ (x : List ℕ). Onward (take n bytes₀) piece out₀ 0 (take w.kept bytes) x out w.used) d a in
+      let b : Onward (kept_by line₀) piece out₀ 0 (kept_by line) [] out u = subst (λ (x : List ℕ). Onward (kept_by line₀) piece out₀ 0 (kept_by line) x out u) d a in
       record {
         holds = k;
-        counts = full_counts w.kept bytes (omega arith) k;
+        counts = full_counts line.kept line.bytes x k;
         fits = omega arith;
-        prints = b.prints w.used out (record { end = sym (add-zero w.used); now = sym (put_none out w.used) });
-        keeps = sym (take_all 256 (take w.kept bytes) (simp length-take (omega arith))) ∙ b.keeps;
+        prints = b.prints u out (record { end = sym (add-zero u); now = sym (put_none out u) });
+        keeps = sym (take_all 256 (kept_by line) (simp length-take (omega arith))) ∙ b.keeps;
       }
 
 same_both : {A : Type 0} (a : A) (b : Bool) → a ≡ cond b a a
@@ -170,33 +178,24 @@ last_some [] h = absurd (h refl)
 last_some (b ∷ l) h = refl
 
 -- ---- the calls
-pub part_most : (n m : ℕ) (l : List ℕ) → n ≤ m → length (take n l) ≤ m
-part_most n m l h = simp length-take (omega arith)
-
-pub taken_counts : (piece : List ℕ) (t k : ℕ) → t ≡ min (length piece) k → t ≡ length (take t piece)
-taken_counts piece t k e = counts t piece (omega arith)
-
-pub taken_room : (piece out : List ℕ) (t : ℕ) → t ≡ min (length piece) (length out / 64) → 64 * length (take t piece) ≤ length out
-taken_room piece out t e = let n : t ≡ length (take t piece) = taken_counts piece t (length out / 64) e in omega arith
-
 module _ (line : Line) (len : length line.bytes ≡ 256) (n : ℕ) (e : n ≡ min line.kept 256) where
   -- the bytes that the code lends are those that the line keeps
   lent : take n line.bytes ≡ kept_by line
   lent = ap (λ (k : ℕ). take k line.bytes) e ∙ kept_least line.bytes line.kept len
 
-  pub lent_fits : n ≤ length line.bytes
+  lent_fits : n ≤ length line.bytes
   lent_fits = omega arith
 
-  pub feeds : {piece out out' bytes' : List ℕ} {t : ℕ} {w : Went} {x : Line} → t ≡ min (length piece) (length out / 64) → length out' ≡ length out
-      → Ran (take t piece) line.bytes n out w bytes' out' → x ≡ keeping (take w.kept bytes') → Feeds line piece out (record { line = x; taken = t; used = w.used }) out'
-  feeds {piece} {out} {out'} {bytes'} {t} {w} {x} f lo r g =
-      let k : w.used ≤ length out' = omega (arith, r.fits) in
+  pub feeds : {piece out out' : List ℕ} {t u : ℕ} {after x : Line} → t ≡ min (length piece) (length out / 64) → length out' ≡ length out
+      → Ran (take t piece) (record { bytes = line.bytes; kept = n }) out u after out' → x ≡ keeping (kept_by after) → Feeds line piece out (record { line = x; taken = t; used = u }) out'
+  feeds {piece} {out} {out'} {t} {u} {after} {x} f lo r g =
+      let k : u ≤ length out' = omega (arith, r.fits) in
       record {
         taken = f;
-        prints = subst (λ (l : List ℕ). Wrote out 0 (answers (ended l (take t piece))) w.used out') lent r.prints;
+        prints = subst (λ (l : List ℕ). Wrote out 0 (answers (ended l (take t piece))) u out') lent r.prints;
         keeps = g ∙ ap keeping r.keeps ∙ keeping_held (rest (take n line.bytes) (take t piece)) ∙ ap (λ (l : List ℕ). keeping (rest l (take t piece))) lent;
         fits = k;
-        counts = counts w.used out' k;
+        counts = counts u out' k;
       }
 
   pub finish_none : (out : List ℕ) → n ≡ 0 → Finishes line out 0 out

@@ -22,13 +22,6 @@ pub struct Fed {
     pub used: usize,
 }
 
-// How many bytes of the line are kept, and how many of the output are in use.
-#[derive(Clone, Copy)]
-struct Went {
-    kept: usize,
-    used: usize,
-}
-
 impl Line {
     // A line that has no byte yet.
     pub fn empty() -> Self
@@ -39,52 +32,46 @@ impl Line {
             kept: 0,
         }
     }
-}
 
-// One byte of the input. Behind 256 bytes of a line nothing is kept: it is refused all the same.
-fn step(b: u8, bytes: &mut [u8], kept: usize, out: &mut [u8], used: usize) -> Went
-    requires { (length bytes.old ≡ 256) × (kept ≤ 256) × (used + 64 ≤ length out.old) }
-    ensures { Stepped b bytes.old kept out.old used result bytes.new out.new }
-{
-    if b == 10 {
-        let next = tags_line::answer(&bytes[..kept], out, used);
-        return Went {
-            kept: 0,
-            used: next,
-        };
+    // The line that keeps these bytes.
+    fn of(text: &[u8]) -> Self
+        requires { length text.now ≤ 256 }
+        ensures { result ≡ keeping text.now }
+    {
+        let mut bytes = [0; 256];
+        let kept = base::put_all(&mut bytes, 0, text);
+        Line { bytes, kept }
     }
-    if kept < bytes.len() {
-        bytes[kept] = b;
-        return Went {
-            kept: kept + 1,
-            used,
-        };
-    }
-    Went { kept, used }
-}
 
-// All bytes of a piece.
-fn run(piece: &[u8], bytes: &mut [u8], kept: usize, out: &mut [u8]) -> Went
-    requires { (length bytes.old ≡ 256) × (kept ≤ 256) × (64 * length piece.now ≤ length out.old) }
-    ensures { Ran piece.now bytes.old kept out.old result bytes.new out.new }
-{
-    let mut w = Went { kept, used: 0 };
-    let mut i = 0;
-    while i < piece.len() {
-        w = step(piece[i], bytes, w.kept, out, w.used);
-        i += 1;
+    // One byte of the input, behind the bytes of the output that are in use: how many are then. Behind 256 bytes of a line nothing is
+    // kept: it is refused all the same.
+    fn step(&mut self, b: u8, out: &mut [u8], used: usize) -> usize
+        requires { (self.old.kept ≤ 256) × (used + 64 ≤ length out.old) }
+        ensures { Stepped b self.old out.old used result self.new out.new }
+    {
+        if b == b'\n' {
+            let next = tags_line::answer(&self.bytes[..self.kept], out, used);
+            self.kept = 0;
+            return next;
+        }
+        if self.kept < self.bytes.len() {
+            self.bytes[self.kept] = b;
+            self.kept += 1;
+        }
+        used
     }
-    w
-}
 
-// The line that keeps these bytes.
-fn keep(text: &[u8]) -> Line
-    requires { length text.now ≤ 256 }
-    ensures { result ≡ keeping text.now }
-{
-    let mut bytes = [0u8; 256];
-    let kept = base::put_all(&mut bytes, 0, text);
-    Line { bytes, kept }
+    // All bytes of a piece.
+    fn run(&mut self, piece: &[u8], out: &mut [u8]) -> usize
+        requires { (self.old.kept ≤ 256) × (64 * length piece.now ≤ length out.old) }
+        ensures { Ran piece.now self.old out.old result self.new out.new }
+    {
+        let mut used = 0;
+        for b in piece {
+            used = self.step(*b, out, used);
+        }
+        used
+    }
 }
 
 // The answers to the lines that end in a piece of the input, from the start of the output. As many bytes are taken as the output has room
@@ -92,19 +79,16 @@ fn keep(text: &[u8]) -> Line
 pub fn feed(line: Line, piece: &[u8], out: &mut [u8]) -> Fed
     ensures { Feeds line piece.now out.old result out.new }
 {
-    let mut bytes = line.bytes;
-    let taken = base::least(piece.len(), out.len() / 64);
-    let w = run(
-        &piece[..taken],
-        &mut bytes,
-        base::least(line.kept, 256),
-        out,
-    );
-    let kept = w.kept;
+    let mut line = Line {
+        kept: line.kept.min(256),
+        ..line
+    };
+    let taken = piece.len().min(out.len() / 64);
+    let used = line.run(&piece[..taken], out);
     Fed {
-        line: keep(&bytes[..kept]),
+        line: Line::of(&line.bytes[..line.kept]),
         taken,
-        used: w.used,
+        used,
     }
 }
 
@@ -112,13 +96,9 @@ pub fn feed(line: Line, piece: &[u8], out: &mut [u8]) -> Fed
 pub fn finish(line: Line, out: &mut [u8]) -> usize
     ensures { Finishes line out.old result out.new }
 {
-    let bytes = line.bytes;
-    let kept = base::least(line.kept, 256);
-    if kept == 0 {
+    let kept = line.kept.min(256);
+    if kept == 0 || out.len() < 64 {
         return 0;
     }
-    if out.len() < 64 {
-        return 0;
-    }
-    tags_line::answer(&bytes[..kept], out, 0)
+    tags_line::answer(&line.bytes[..kept], out, 0)
 }

@@ -1,9 +1,9 @@
 -- What is written is read back.
+use Rattle.std.specs.Prelude.{Some}
 use Prim.Native.Nat.{ℕ, suc, ◌+◌, ◌*◌, ◌-◌, ◌/◌, ◌%◌, ◌≤◌, ◌<◌}
 use mathlib.Core.Path.{◌≡◌, refl, ap, sym, ◌∙◌}
 use mathlib.Core.List.{List, [], ◌∷◌}
 use mathlib.Core.Bool.{Bool, true, false}
-use mathlib.Core.Option.{some}
 use native.Mathlib.Omega.{arith}
 use lib.Dec.{ltb}
 use lib.ListN.{length, get_or}
@@ -42,10 +42,10 @@ back (b ∷ bs) f =
       same = rw (digit_back (b / 16) h, digit_back (b % 16) g, e) (ap (λ (l : List ℕ). b ∷ l) r.same);
     }
 
-pub hex_back : (bs : List ℕ) → ((i : ℕ) → get_or bs i 0 < 256) → 0 < length bs → unhexed (hex bs) ≡ some bs
+pub hex_back : (bs : List ℕ) → ((i : ℕ) → get_or bs i 0 < 256) → 0 < length bs → unhexed (hex bs) ≡ Some bs
 unfolding unhexed hex_text
 hex_back bs f h =
     let r = back bs f in
     let n : 0 < length (hex bs) = omega (arith, hex_length bs) in
     let e : length (hex bs) % 2 ≡ 0 = omega (arith, hex_length bs) in
-    rw (lt-ltb 0 (length (hex bs)) n, eq-eqb (length (hex bs) % 2) 0 e, r.good) (ap some r.same)
+    rw (lt-ltb 0 (length (hex bs)) n, eq-eqb (length (hex bs) % 2) 0 e, r.good) (ap Some r.same)

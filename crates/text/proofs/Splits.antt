@@ -1,15 +1,19 @@
 -- Laws of the parts of a text.
+use Rattle.std.specs.Prelude.{◌==◌, count_by}
+use Rattle.std.proofs.lemmas.List.Sums.{sum_by-cons}
 use Prim.Native.Nat.{ℕ, zero, suc, ◌+◌, ◌-◌, ◌≤◌, ◌<◌, min}
 use mathlib.Core.Path.{◌≡◌, refl, ap, sym, ◌∙◌}
 use mathlib.Core.List.{List, [], ◌∷◌}
-use mathlib.Core.Bool.{Bool, true, false, cond}
+use mathlib.Core.Bool.{Bool, true, false, cond, ◌&&◌}
 use native.Mathlib.Omega.{arith}
 use lib.Dec.{eqb}
+use lib.Pointwise.{pointwise}
 use lib.ListN.{length, take, drop, get_or, drop_of_length-le}
 use lib.Seq.{drop-drop, length-take-le}
 use borrow.Author.Tests.{eq-eqb, ne_eqb}
 use Rattle.base.proofs.Parts.{drop_next}
-use Rattle.text.specs.Line.{before, cut, part_at}
+use Rattle.text.specs.Line.{before, cut, part_at, same}
+use Rattle.base.specs.Chars.{spelled}
 
 -- ---- the first part, and the others
 before_first : (b : ℕ) (ws : List (List ℕ)) → get_or (before b ws) 0 [] ≡ b ∷ get_or ws 0 []
@@ -94,14 +98,6 @@ module _ (by : ℕ) where
         let n : e - at ≡ length (part_at by 0 (drop at s)) = omega arith in
         ap (λ (x : ℕ). take x (drop at s)) n ∙ first_is (drop at s) ∙ g
 
-  pub part_next : (s l m : List ℕ) (left k : ℕ) → 0 < left → ((j : ℕ) → part_at by j m ≡ part_at by (suc j) l) → part_at by left l ≡ part_at by k s → part_at by (left - 1) m ≡ part_at by k s
-  part_next s l m zero k h f e = absurd (omega arith)
-  part_next s l m (suc j) k h f e = let n : suc j - 1 ≡ j = omega arith in rw n (f j ∙ e)
-
-  pub part_done : (s l : List ℕ) (left k : ℕ) → left ≤ 0 → part_at by left l ≡ part_at by k s → part_at by 0 l ≡ part_at by k s
-  part_done s l zero k h e = e
-  part_done s l (suc j) k h e = absurd (omega arith)
-
   -- ---- how many there are
   some_part : (s : List ℕ) → 0 < length (cut by s)
   unfolding cut
@@ -120,20 +116,21 @@ module _ (by : ℕ) where
       go true = omega arith
       go false = omega (arith, before_length b (cut by s) (some_part s))
 
-  module _ (s : List ℕ) (i n : ℕ) (e : n + length (cut by (drop i s)) ≡ 1 + length (cut by s)) where
-    pub count_turn : (d : ℕ) → i < length s → d ≡ cond (eqb (get_or s i 0) by) 1 0 → n + d + length (cut by (drop (i + 1) s)) ≡ 1 + length (cut by s)
-    count_turn d h f =
-        let g : length (cut by (drop i s)) ≡ d + length (cut by (drop (i + 1) s)) = ap (λ (x : List ℕ). length (cut by x)) (drop_next s i h) ∙ count_cons (get_or s i 0) (drop (i + 1) s) ∙ ap (λ (k : ℕ). k + length (cut by (drop (i + 1) s))) (sym f) in
-        omega arith
-
-    pub count_done : length s ≤ i → n ≡ length (cut by s)
-    unfolding cut
-    count_done h =
-        let g : length (cut by (drop i s)) ≡ 1 = ap (λ (x : List ℕ). length (cut by x)) (drop_of_length-le s h) in
-        omega arith
+  pub parts_are : (s : List ℕ) → length (cut by s) ≡ 1 + count_by (λ b. b == by) s
+  unfolding cut
+  parts_are [] = refl
+  parts_are (b ∷ s) = omega (arith, count_cons b s, parts_are s, sum_by-cons (λ x. cond (x == by) 1 0) b s)
 
 -- ---- so many bytes are there
 pub counted : (n k : ℕ) (s : List ℕ) → k ≡ min n (length s) → (k ≤ length s) × (k ≡ length (take k s)) × (k ≡ min n (length s))
 counted n k s e =
     let h : k ≤ length s = omega arith in
     (h, sym (length-take-le k s h), e)
+
+-- ---- the same bytes
+pub same_is : (s t : List ℕ) → pointwise eqb s t ≡ same s t
+unfolding spelled
+same_is [] [] = refl
+same_is [] (b ∷ t) = refl
+same_is (a ∷ s) [] = refl
+same_is (a ∷ s) (b ∷ t) = ap (λ (x : Bool). eqb a b && x) (same_is s t)

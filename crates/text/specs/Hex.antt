@@ -1,10 +1,7 @@
 -- Bytes as hexadecimal text.
-use Rattle.std.specs.Prelude.{ℕ, ◌+◌, ◌*◌, ◌-◌, ◌/◌, ◌%◌, ◌≤◌, ◌≡◌, List, [], ◌∷◌, Bool, true, false, cond, ◌&&◌, ltb, leb, eqb, length, take, drop}
-use Rattle.std.proofs.Math.Option.{Option, none, some}
+use Rattle.std.specs.Prelude.{ℕ, ◌+◌, ◌*◌, ◌-◌, ◌/◌, ◌%◌, ◌≤◌, ◌≡◌, List, [], ◌∷◌, Bool, cond, ◌&&◌, ltb, leb, eqb, length, take, drop, Option, None, Some, option_map, unwrap_or}
+use Rattle.std.specs.List.{list_all}
 use Rattle.text.specs.Line.{same}
-use Rattle.text.specs.declared.hex.Long.{Long}
-use Rattle.text.specs.declared.hex.Bytes.{Bytes}
-use Rattle.text.specs.declared.hex.Byte.{Byte}
 
 -- a capital hexadecimal digit
 unfoldable pub digit : ℕ → ℕ
@@ -24,8 +21,7 @@ nibble c =
 
 -- nothing but hexadecimal digits
 unfoldable pub digits : List ℕ → Bool
-digits [] = true
-digits (c ∷ s) = ltb (nibble c) 16 && digits s
+digits s = list_all (λ c. ltb (nibble c) 16) s
 
 -- an even and positive number of digits
 unfoldable pub hex_text : List ℕ → Bool
@@ -39,26 +35,21 @@ pairs (a ∷ b ∷ s) = (nibble a * 16 + nibble b) ∷ pairs s
 
 -- the bytes of a byte string, where a text is one: a byte for each two digits, and none at all for `-`
 unfoldable pub unhexed : List ℕ → Option (List ℕ)
-unhexed s = cond (hex_text s) (some (pairs s)) (cond (same s (45 ∷ [])) (some []) none)
+unhexed s = cond (hex_text s) (Some (pairs s)) (cond (same s (45 ∷ [])) (Some []) None)
 
 -- the bytes, where they fit in so much room
 unfoldable pub fitting : ℕ → Option (List ℕ) → Option (List ℕ)
-fitting room none = none
-fitting room (some bs) = cond (leb (length bs) room) (some bs) none
+fitting room None = None
+fitting room (Some bs) = cond (leb (length bs) room) (Some bs) None
 
--- what an answer with its memory stands for
-abbrev pub bytes_of : Bool → List ℕ → Option (List ℕ)
-bytes_of true bs = some bs
-bytes_of false bs = none
-
--- a byte string was read into a memory `out`, which left `out'`: its bytes are the first `n`, and nothing behind them changed;
+-- a byte string was read into a memory `out`, which left `out'`: its bytes are the first ones, as many as were answered, and nothing behind them changed;
 -- where it could not be read, nothing changed at all
-pub record Unhexed (s out : List ℕ) (r : Bytes) (out' : List ℕ) : Type 0 where
-  pub fits : r.n ≤ length out'
-  pub counts : r.n ≡ length (take r.n out')
-  pub right : bytes_of r.good (take r.n out') ≡ fitting (length out) (unhexed s)
-  pub kept : drop r.n out' ≡ drop r.n out
-  pub refused : r.good ≡ false → (r.n ≡ 0) × (out' ≡ out)
+pub record Unhexed (s out : List ℕ) (r : Option ℕ) (out' : List ℕ) : Type 0 where
+  pub fits : unwrap_or r 0 ≤ length out'
+  pub counts : unwrap_or r 0 ≡ length (take (unwrap_or r 0) out')
+  pub right : option_map (λ n. take n out') r ≡ fitting (length out) (unhexed s)
+  pub kept : drop (unwrap_or r 0) out' ≡ drop (unwrap_or r 0) out
+  pub refused : r ≡ None → out' ≡ out
 
 -- the number that hexadecimal digits stand for, behind those that make n
 unfoldable pub hex_value : ℕ → List ℕ → ℕ
@@ -66,9 +57,9 @@ hex_value n [] = n
 hex_value n (c ∷ s) = hex_value (n * 16 + nibble c) s
 
 -- "CODE: exactly two hexadecimal digits"
-unfoldable pub code_of : List ℕ → Byte
-code_of s = cond (eqb (length s) 2 && digits s) (Byte.Is (hex_value 0 s)) Byte.No
+unfoldable pub code_of : List ℕ → Option ℕ
+code_of s = cond (eqb (length s) 2 && digits s) (Some (hex_value 0 s)) None
 
 -- "BITS: exactly eight"
-unfoldable pub bits_of : List ℕ → Long
-bits_of s = cond (eqb (length s) 8 && digits s) (Long.Is (hex_value 0 s)) Long.No
+unfoldable pub bits_of : List ℕ → Option ℕ
+bits_of s = cond (eqb (length s) 8 && digits s) (Some (hex_value 0 s)) None

@@ -4,5 +4,5 @@
 mod hex;
 mod line;
 
-pub use hex::{Byte, Bytes, Long, bits, code, put_hex, unhex};
+pub use hex::{bits, code, put_hex, unhex};
 pub use line::{field, fields, is, part, part_end, parts, within};

@@ -1,33 +1,30 @@
 // Parts of a text: the fields of a line.
-ghost use Rattle.std.specs.Prelude.{◌≡◌, cond, ℕ, suc, ◌+◌, ◌-◌, ◌≤◌, min, eqb, length, take, drop};
+ghost use Rattle.std.specs.Prelude.{◌≡◌, ℕ, suc, ◌+◌, ◌-◌, ◌≤◌, min, length, take, drop};
 ghost use Rattle.text.specs.Line.{cut, part_at, same};
 
 const BLANK: u8 = 32;
 
 // The end of the part that starts here: the next byte `by`, or the end.
+#[tactic(auto, using(crate::proofs::Splits::end_stop, crate::proofs::Splits::end_turn, crate::proofs::Splits::end_none))]
 pub fn part_end(s: &[u8], by: u8, at: usize) -> usize
     ensures { (result ≡ at + length (part_at by 0 (drop at s.now))) × (at ≤ result) × (result ≤ at + (length s.now - at)) }
 {
-    let mut i = at;
-    while i < s.len() {
+    for i in at..s.len() {
         if s[i] == by {
             return i;
         }
-        i += 1;
     }
-    i
+    at.max(s.len())
 }
 
 // The start of the next part; the end where there is none.
+#[tactic(auto, using(crate::proofs::Splits::next_some, crate::proofs::Splits::next_none))]
 fn next_start(s: &[u8], by: u8, at: usize) -> usize
     requires { at ≤ length s.now }
     ensures { (result ≤ length s.now) × ((k : ℕ) → part_at by k (drop result s.now) ≡ part_at by (suc k) (drop at s.now)) }
 {
     let e = part_end(s, by, at);
-    if e < s.len() {
-        return e + 1;
-    }
-    e
+    if e < s.len() { e + 1 } else { e }
 }
 
 // The start of part k.
@@ -35,10 +32,8 @@ fn part_start(s: &[u8], by: u8, k: usize) -> usize
     ensures { (result ≤ length s.now) × (part_at by 0 (drop result s.now) ≡ part_at by k s.now) }
 {
     let mut at = 0;
-    let mut left = k;
-    while left > 0 {
+    for _i in 0..k {
         at = next_start(s, by, at);
-        left -= 1;
     }
     at
 }
@@ -52,24 +47,12 @@ pub fn part(s: &[u8], by: u8, k: usize) -> &[u8]
     &s[a..e]
 }
 
-// 1 for the byte `by`, else 0.
-fn one_for(c: u8, by: u8) -> usize
-    ensures { (result ≡ cond (eqb c by) 1 0) × (result ≤ 1) }
-{
-    if c == by { 1 } else { 0 }
-}
-
 // How many parts there are.
+#[tactic(auto, using(crate::proofs::Splits::parts_are))]
 pub fn parts(s: &[u8], by: u8) -> usize
     ensures { result ≡ length (cut by s.now) }
 {
-    let mut n = 1;
-    let mut i = 0;
-    while i < s.len() {
-        n += one_for(s[i], by);
-        i += 1;
-    }
-    n
+    1 + s.iter().filter(|b| **b == by).count()
 }
 
 // Field k of a line, counted from 0; empty where there is none.
@@ -87,18 +70,17 @@ pub fn fields(line: &[u8]) -> usize
 }
 
 // Are these the same bytes?
+#[tactic(auto, using(crate::proofs::Splits::same_is))]
 pub fn is(a: &[u8], b: &[u8]) -> bool
     ensures { result ≡ same a.now b.now }
 {
-    base::spells(a, b, false)
+    a == b
 }
 
 // So many bytes, or all where there are fewer.
+#[tactic(auto, using(crate::proofs::Splits::counted))]
 pub fn within(n: usize, s: &[u8]) -> usize
     ensures { (result ≤ length s.now) × (result ≡ length (take result s.now)) × (result ≡ min n (length s.now)) }
 {
-    if n < s.len() {
-        return n;
-    }
-    s.len()
+    n.min(s.len())
 }

@@ -1,9 +1,9 @@
 -- A command that avoids the closed files asks for the bytes of an open file, or of none.
+use Rattle.std.specs.Prelude.{Option, None, Some}
 use Prim.Native.Nat.{ℕ}
 use mathlib.Core.Path.{◌≡◌, refl, sym, subst, ◌∙◌}
 use mathlib.Core.Bool.{Bool, true, false, not, ◌||◌}
 use mathlib.Core.List.{List, ◌∷◌}
-use mathlib.Core.Option.{Option, none, some}
 use borrow.Author.Tests.{eq-eqb}
 use lib.Dec.{eqb}
 use Rattle.parser_spec.specs.Parts.{Part, then}
@@ -18,16 +18,16 @@ use Rattle.theorem_closed_files.specs.Closed.{value, file_place, type_place, avo
 
 -- two readings that begin with the same part
 both : {A B C : Type 0} (R : Option (B × List ℕ) → Option (C × List ℕ) → Type 0) (o : Option (A × List ℕ)) {k : A → Part B} {j : A → Part C}
-    → R none none → ((a : A) (s : List ℕ) → R (k a s) (j a s)) → R (then o k) (then o j)
+    → R None None → ((a : A) (s : List ℕ) → R (k a s) (j a s)) → R (then o k) (then o j)
 unfolding then
-both R none n f = n
-both R (some x) n f = f x.0 x.1
+both R None n f = n
+both R (Some x) n f = f x.0 x.1
 
 -- the header's file and type stand in these places
 abbrev Place : (Header → ℕ) → Option (Header × List ℕ) → Option (ℕ × List ℕ) → Type 0
-Place f x y = Holds (λ (h : Header) (r : List ℕ). value y ≡ some (f h)) x
+Place f x y = Holds (λ (h : Header) (r : List ℕ). value y ≡ Some (f h)) x
 
-file_place_lem : (s : List ℕ) → Holds (λ (h : Header) (r : List ℕ). file_place s ≡ some h.file) (header s)
+file_place_lem : (s : List ℕ) → Holds (λ (h : Header) (r : List ℕ). file_place s ≡ Some h.file) (header s)
 unfolding header file_place
 file_place_lem s =
     both (Place (λ h. h.file)) (number_of 1 s) nothing
@@ -35,7 +35,7 @@ file_place_lem s =
     (λ file r1. and_any (number_of 1 r1)
     (λ code r2. and_any (address r2) (λ element r3. that refl))))
 
-type_place_lem : (s : List ℕ) → Holds (λ (h : Header) (r : List ℕ). type_place s ≡ some h.code) (header s)
+type_place_lem : (s : List ℕ) → Holds (λ (h : Header) (r : List ℕ). type_place s ≡ Some h.code) (header s)
 unfolding header type_place
 type_place_lem s =
     both (Place (λ h. h.code)) (number_of 1 s) nothing
@@ -55,8 +55,8 @@ module _ (closed : ℕ → Bool) where
   allows : (fn : ℕ) (p : List ℕ) → avoids_by closed fn p ≡ true → (rs : List FileRecord) → Allows Open rs fn (header p)
   unfolding avoids_by
   allows fn p h rs x e nd nl =
-      let f : file_place p ≡ some x.0.file = held_of (file_place_lem p) e in
-      let t : type_place p ≡ some x.0.code = held_of (type_place_lem p) e in
+      let f : file_place p ≡ Some x.0.file = held_of (file_place_lem p) e in
+      let t : type_place p ≡ Some x.0.code = held_of (type_place_lem p) e in
       open_file (closed x.0.file) (asks_directory fn x.0.file) (asks_datalog fn x.0.code) (rw (f, t) at h) nd nl
 
   pub open_asked : (rs : List FileRecord) (text : List ℕ) (c : List ℕ) → well_formed c ≡ true → avoids closed c ≡ true

@@ -1,12 +1,12 @@
 -- Calls that meet the contract follow `run`, so the rule holds of them.
+use Rattle.std.specs.Prelude.{Result, Ok, Err}
 use Prim.Native.Nat.{ℕ, ◌+◌}
 use mathlib.Core.Path.{◌≡◌, refl, sym, ap, ap₂, subst, subst₂, ◌∙◌}
 use mathlib.Core.List.{List, [], ◌∷◌, map}
 use lib.ListN.{length, drop}
 use lib.Seq.{take_at}
+use Rattle.base.specs.declared.refusal.Refusal.{Refusal}
 use Rattle.base.specs.Put.{put}
-use Rattle.processor_spec.specs.declared.Answered.{Answered}
-use Rattle.processor_spec.specs.declared.Answered.TheVariants as answered
 use Rattle.processor_spec.specs.declared.Done.{Done}
 use Rattle.processor_spec.specs.Pccc.{Left, answered_of, reply_left, heard, pccc_of, Says}
 use Rattle.processor_spec.specs.Plain.{state_of}
@@ -18,14 +18,14 @@ use Rattle.theorem_closed_files.specs.Calls.{Processor, state, Calls, no_call, o
 use Rattle.theorem_closed_files.proofs.ClosedFiles.{closed_file_rule}
 
 -- what the caller has of an answer
-told : Answer → Answered × List ℕ
-told (refused n) = (answered.Refused n, [])
-told (replied bs) = (answered.Reply (length bs), bs)
+told : Answer → Result ℕ Refusal × List ℕ
+told (refused n) = (Err n, [])
+told (replied bs) = (Ok (length bs), bs)
 
 heard_answer : (a : Answer) (m : List ℕ) → (answered_of a, heard (answered_of a) (reply_left a m)) ≡ told a
 unfolding heard answered_of reply_left told put
 heard_answer (refused n) m = refl
-heard_answer (replied bs) m = ap (λ (l : List ℕ). (answered.Reply (length bs), l)) (take_at bs (drop (0 + length bs) m) (length bs) refl)
+heard_answer (replied bs) m = ap (λ (l : List ℕ). (Ok (length bs), l)) (take_at bs (drop (0 + length bs) m) (length bs) refl)
 
 module _ (p : Processor) (c : Call) (done : Done) (memory reply : List ℕ)
     (says : Says p.slc p.table p.memory p.log c.command c.memory done memory reply) where
@@ -42,7 +42,7 @@ module _ (p : Processor) (c : Call) (done : Done) (memory reply : List ℕ)
       ap (λ (l : Left Done). state_of l.done.slc p.table l.memory p.log) says
       ∙ state_left p.slc p.table p.memory p.log c.command (length c.memory) x.effect refl
 
-follows : {p q : Processor} {cs : List Call} {hs : List (Answered × List ℕ)} → Calls p cs hs q
+follows : {p q : Processor} {cs : List Call} {hs : List (Result ℕ Refusal × List ℕ)} → Calls p cs hs q
     → (hs ≡ map told (run (state p) cs).answers) × (state q ≡ (run (state p) cs).last)
 unfolding run
 follows no_call = (refl, refl)

@@ -1,12 +1,13 @@
 -- The closed-file rule: one command, by what it asks, and then the whole list.
+use Rattle.std.specs.Prelude.{Some}
 use Prim.Native.Nat.{ℕ, ◌-◌}
 use mathlib.Core.Path.{◌≡◌, refl, sym, ap, ap₂, subst, subst₂, ◌∙◌}
 use mathlib.Core.Bool.{Bool, true, false, false≢true, cond}
 use mathlib.Core.List.{List, [], ◌∷◌}
-use mathlib.Core.Option.{some}
 use native.Mathlib.Decide.{ℕ_discrete}
 use lib.Dec.{leb}
 use lib.ListN.{length, take, drop}
+use Rattle.base.specs.declared.refusal.Refusal.TheVariants.{ShortReplyMemory, MalformedCommand}
 use Rattle.base.specs.Put.{put}
 use Rattle.processor_spec.specs.declared.FileRecord.{FileRecord}
 use Rattle.processor_spec.specs.Ask.{Ask, fail, tell, pop, read, write, ask}
@@ -73,7 +74,7 @@ module _ (closed : ℕ → Bool) (a b : State) (ha : sound a ≡ true) (hb : sou
     abbrev across : Inside b.records n at size
     across = record {
       file = i.file;
-      found = subst (λ (rs : List FileRecord). find n rs ≡ some i.file) same_records i.found;
+      found = subst (λ (rs : List FileRecord). find n rs ≡ Some i.file) same_records i.found;
       from = i.from;
       upto = i.upto;
     }
@@ -137,7 +138,7 @@ module _ (closed : ℕ → Bool) (a b : State) (ha : sound a ≡ true) (hb : sou
           (ap₂ (λ (rs : List FileRecord) (text : List ℕ). ask rs text (cmd c) (function c)) same_records ag.same_text)
           (isolated_ask c q (open_asked closed a.records a.type_text c w av))
 
-      go : (r w : Bool) → well_formed c ≡ w → Isolated₁ closed a b (cond r (cond w (obey a c) (refuse 18)) (refuse 17)) (cond r (cond w (obey b c) (refuse 18)) (refuse 17))
+      go : (r w : Bool) → well_formed c ≡ w → Isolated₁ closed a b (cond r (cond w (obey a c) (refuse MalformedCommand)) (refuse ShortReplyMemory)) (cond r (cond w (obey b c) (refuse MalformedCommand)) (refuse ShortReplyMemory))
       go false w e = stay _ _ refl
       go true false e = stay _ _ refl
       go true true e = obeyed e

@@ -1,6 +1,5 @@
 -- Demand 3: nobody who sends only commands that avoid a closed file can learn or change a byte of it (document 01 (e)).
-use Rattle.std.specs.Prelude.{ℕ, ◌≡◌, Bool, true, false, not, ◌&&◌, ◌||◌, cond, List, [], ◌∷◌, map, eqb, length}
-use Rattle.std.proofs.Math.Option.{Option, none, some}
+use Rattle.std.specs.Prelude.{ℕ, ◌≡◌, Bool, true, false, not, ◌&&◌, ◌||◌, cond, List, [], ◌∷◌, map, eqb, length, Option, None, Some}
 use Rattle.parser_spec.specs.Parts.{◌>>=◌, give}
 use Rattle.processor_spec.specs.Files.{shape, contents}
 use Rattle.processor_spec.specs.Frame.{well_formed, cmd, function}
@@ -11,8 +10,8 @@ use Rattle.processor_spec.specs.Step.{Call, run}
 -- ---- a command that avoids the closed files
 
 abbrev pub value : Option (ℕ × List ℕ) → Option ℕ
-value none = none
-value (some x) = some x.0
+value None = None
+value (Some x) = Some x.0
 
 -- "The file place is the address behind size in a 0x0F command ..; a command cut before that address ends has none."; `p` stands behind the
 -- function byte
@@ -25,8 +24,8 @@ type_place p = value ((do size ← number_of 1; file ← address; code ← numbe
 
 -- what stands there passes a test
 abbrev pub there : (ℕ → Bool) → Option ℕ → Bool
-there test none = false
-there test (some n) = test n
+there test None = false
+there test (Some n) = test n
 
 -- "none with a closed file's number in its file place unless it asks for the directory or the datalog": "0xA1 with file place 0 asks for the
 -- directory, 0xA2 with type A5 for the datalog"
@@ -44,11 +43,11 @@ avoids closed c = not (well_formed c) || avoids_in closed (cmd c) (function c)
 
 -- the file place of a command, where it has one: not where it is refused with 18, isn't a 0x0F command, or is cut before that address ends
 abbrev pub place_behind : List ℕ → Option ℕ
-place_behind [] = none
+place_behind [] = None
 place_behind (fn ∷ p) = file_place p
 
 unfoldable pub file_place_of : List ℕ → Option ℕ
-file_place_of c = cond (well_formed c && eqb (cmd c) 0x0F) (place_behind (function c)) none
+file_place_of c = cond (well_formed c && eqb (cmd c) 0x0F) (place_behind (function c)) None
 
 unfoldable pub all_avoid : (ℕ → Bool) → List Call → Bool
 all_avoid closed [] = true

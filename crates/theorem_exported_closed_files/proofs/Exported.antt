@@ -1,9 +1,10 @@
 -- An exported call is a call of `Slc::pccc` with its answer in numbers, so the rule holds of it.
+use Rattle.std.specs.Prelude.{Result, Ok, Err}
 use Prim.Native.Nat.{ℕ}
 use mathlib.Core.Path.{◌≡◌, refl, sym, ap, ap₂, subst, ◌∙◌}
 use mathlib.Core.List.{List, [], ◌∷◌, map}
-use Rattle.processor_spec.specs.declared.Answered.{Answered}
-use Rattle.processor_spec.specs.declared.Answered.TheVariants as answered
+use Rattle.base.specs.declared.refusal.Refusal.{Refusal}
+use Rattle.base.specs.Refusals.{number_of}
 use Rattle.processor_spec.specs.declared.Done.{Done}
 use Rattle.processor_spec.specs.declared.Slc.{Slc}
 use Rattle.processor_spec.specs.Pccc.{Left, left, heard, pccc_of, Says}
@@ -17,29 +18,29 @@ use Rattle.link_processor.specs.ProcessorRecords.{answered_to, done_of}
 use Rattle.theorem_exported_closed_files.specs.Exported.{Told, told_by, Exports, no_call, one_call, ClosedFileRuleOfExports}
 
 -- what is heard of a call, in numbers
-in_numbers : Answered × List ℕ → Told
-in_numbers (answered.Refused n, bs) = (n, (0, bs))
-in_numbers (answered.Reply k, bs) = (0, (k, bs))
+in_numbers : Result ℕ Refusal × List ℕ → Told
+in_numbers (Err e, bs) = (number_of e, (0, bs))
+in_numbers (Ok k, bs) = (0, (k, bs))
 
 told_heard : (d : Done) (reply : List ℕ) → told_by (done_of d) reply ≡ in_numbers (d.answered, heard d.answered reply)
 unfolding done_of heard in_numbers
 told_heard d reply = go d.answered
   where
-    go : (a : Answered) → told_by (answered_to d.slc a) reply ≡ in_numbers (a, heard a reply)
-    go (answered.Refused n) = refl
-    go (answered.Reply k) = refl
+    go : (a : Result ℕ Refusal) → told_by (answered_to d.slc a) reply ≡ in_numbers (a, heard a reply)
+    go (Err e) = refl
+    go (Ok k) = refl
 
 slc_of_lem : (d : Done) → (done_of d).slc ≡ d.slc
 unfolding done_of
 slc_of_lem d = go d.answered
   where
-    go : (a : Answered) → (answered_to d.slc a).slc ≡ d.slc
-    go (answered.Refused n) = refl
-    go (answered.Reply k) = refl
+    go : (a : Result ℕ Refusal) → (answered_to d.slc a).slc ≡ d.slc
+    go (Err e) = refl
+    go (Ok k) = refl
 
 -- the calls that stand behind the exported ones
 record Behind (p : Processor) (cs : List Call) (hs : List Told) (q : Processor) : Type 0 where
-  answers : List (Answered × List ℕ)
+  answers : List (Result ℕ Refusal × List ℕ)
   calls : Calls p cs answers q
   told : hs ≡ map in_numbers answers
 

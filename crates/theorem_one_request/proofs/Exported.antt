@@ -4,18 +4,20 @@ use mathlib.Core.Path.{◌≡◌, refl, ap, sym, subst₂, ◌∙◌}
 use mathlib.Core.Logic.{◌↔◌}
 use native.Mathlib.Omega.{arith}
 use lib.ListN.{length, take}
+use Rattle.base.specs.Refusals.{number_of}
 use Rattle.file_type.specs.Table.{row}
 use Rattle.address_spec.specs.declared.Address.{Address}
 use Rattle.address_spec.specs.Elements.{Elements, elements_of}
 use Rattle.request_frame.specs.declared.Requestor.{Requestor}
 use Rattle.request_spec.specs.Request.{Asked, refused, sends, reading, request_of}
 use Rattle.request_spec.proofs.ElementsTold.{code_same, same}
+use Rattle.request_spec.proofs.RefusalNumbers.{numbered}
 use Rattle.link_requests.specs.declared.requests.SlcRequest.{SlcRequest}
 use Rattle.link_requests.specs.Kinds.{reading_of}
 use Rattle.link_requests.specs.RequestRecords.{full_address, no_address, request_record}
 use Rattle.theorem_one_request.specs.OneRequest.{Accepts}
 use Rattle.theorem_one_request.specs.Exported.{Exports, Agree, OneRequestOfExports}
-use Rattle.theorem_one_request.proofs.Same.{refusal_some, one_request_of_calls}
+use Rattle.theorem_one_request.proofs.Same.{one_request_of_calls}
 
 -- the five in numbers
 module _ (x y : Address) where
@@ -45,8 +47,8 @@ module _ {q : Requestor} {sequence : ℕ} where
     where
       go : (o : Asked) → reading a.tag (reading_of a.how) q sequence a.out ≡ o → a.answer ≡ request_record (request_of o) → Behind a
       go (refused k) e h =
-          let s : 0 < k = refusal_some a.tag (reading_of a.how) q sequence a.out k e in
-          let z : k ≡ 0 = sym (ap (λ (r : SlcRequest). r.address.refused) h) ∙ a.accepts in
+          let s : 0 < number_of k = (numbered k).0 in
+          let z : number_of k ≡ 0 = sym (ap (λ (r : SlcRequest). r.address.refused) h) ∙ a.accepts in
           absurd (omega arith)
       go (sends x m) e h = record {
         call = record { tag = a.tag; how = reading_of a.how; out = a.out; left = a.left; address = x; length = length m; meets = record { answer = ap request_of (sym e); now = a.meets.memory } };

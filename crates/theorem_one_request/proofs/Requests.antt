@@ -1,9 +1,9 @@
 -- The processor reads what the request builders write.
+use Rattle.std.specs.Prelude.{Some}
 use Prim.Native.Nat.{ℕ, suc, ◌+◌, ◌≤◌, ◌<◌, ◌^◌}
 use mathlib.Core.Path.{◌≡◌, refl, sym, ap, subst, ◌∙◌}
 use mathlib.Core.Bool.{Bool, true, false, ◌&&◌, cond}
 use mathlib.Core.List.{List, [], ◌∷◌, ◌++◌, append_assoc}
-use mathlib.Core.Option.{some}
 use native.Mathlib.Omega.{arith}
 use borrow.Author.Tests.{lt-ltb, le-leb, ne_eqb, ltb-true}
 use lib.Dec.{ltb}
@@ -21,35 +21,35 @@ use Rattle.processor_spec.proofs.Tests.{and_both}
 use Rattle.processor_spec.proofs.Reader.{several_back, byte_back}
 
 -- a number is read back
-pub number_back : (k n : ℕ) (rest : List ℕ) → n < 256 ^ k → number_of k (low_first k n ++ rest) ≡ some (n, rest)
+pub number_back : (k n : ℕ) (rest : List ℕ) → n < 256 ^ k → number_of k (low_first k n ++ rest) ≡ Some (n, rest)
 unfolding then
 number_back k n rest h = rw (several_back k (low_first k n) rest (low_length k n), read_back k n h)
 
 -- an address is read back: one byte, or FF and a word
-address_byte : (n : ℕ) (rest : List ℕ) → n < 255 → address (low_first 1 n ++ rest) ≡ some (n, rest)
+address_byte : (n : ℕ) (rest : List ℕ) → n < 255 → address (low_first 1 n ++ rest) ≡ Some (n, rest)
 unfolding address then
 address_byte n rest h =
     let l : n < 256 ^ 1 = omega arith in
     let ne : n ≡ 255 → ⊥ = λ e. let z : n < n = subst (λ (k : ℕ). n < k) (sym e) h in absurd (omega arith) in
     rw (number_back 1 n rest l, ne_eqb n 255 ne)
 
-address_word : (n : ℕ) (rest : List ℕ) → n < 65536 → address (0xFF ∷ (low_first 2 n ++ rest)) ≡ some (n, rest)
+address_word : (n : ℕ) (rest : List ℕ) → n < 65536 → address (0xFF ∷ (low_first 2 n ++ rest)) ≡ Some (n, rest)
 unfolding address then number
 address_word n rest h =
     let l : n < 256 ^ 2 = h in
     rw (several_back 1 (0xFF ∷ []) (low_first 2 n ++ rest) refl) (number_back 2 n rest l)
 
-pub address_back : (n : ℕ) (rest : List ℕ) → n < 65536 → address (address_field n ++ rest) ≡ some (n, rest)
+pub address_back : (n : ℕ) (rest : List ℕ) → n < 65536 → address (address_field n ++ rest) ≡ Some (n, rest)
 unfolding address_field
 address_back n rest h = go (ltb n 255) refl
   where
-    go : (b : Bool) → ltb n 255 ≡ b → address (cond b (low_first 1 n) ((0xFF ∷ []) ++ low_first 2 n) ++ rest) ≡ some (n, rest)
+    go : (b : Bool) → ltb n 255 ≡ b → address (cond b (low_first 1 n) ((0xFF ∷ []) ++ low_first 2 n) ++ rest) ≡ Some (n, rest)
     go true t = address_byte n rest (ltb-true n 255 t)
     go false t = address_word n rest h
 
 -- what stands behind the function byte of a typed command is its header, and what follows
 pub header_back : (fn size : ℕ) (p : Target) (rest : List ℕ) → p.file < 65536 → p.element < 65536
-    → header (drop 1 (two_addresses fn size p) ++ rest) ≡ some (record { size = size; file = p.file; code = p.code; element = p.element }, rest)
+    → header (drop 1 (two_addresses fn size p) ++ rest) ≡ Some (record { size = size; file = p.file; code = p.code; element = p.element }, rest)
 unfolding header two_addresses then
 header_back fn size p rest hf he =
     rw (

@@ -1,28 +1,24 @@
 -- A message tells its elements (request_spec/ElementsTold), for an accepted address has numbers that its fields hold.
-use Prim.Native.Nat.{ℕ, ◌+◌, ◌<◌}
+use Rattle.std.specs.Prelude.{Result, Ok, Err}
+use Prim.Native.Nat.{ℕ, ◌+◌}
 use mathlib.Core.Path.{◌≡◌, refl, ap, ap₂, sym, subst, ◌∙◌}
 use mathlib.Core.Logic.{◌↔◌}
-use mathlib.Core.Bool.{Bool, true, false, ◌&&◌, cond}
+use mathlib.Core.Bool.{Bool, true, false, cond}
 use mathlib.Core.List.{List, [], ◌++◌}
-use mathlib.Core.Option.{Option, none, some}
 use native.Mathlib.Omega.{arith}
 use lib.Dec.{leb}
 use lib.ListN.{length, take, drop, take-append-drop}
 use lib.Seq.{take-append_seam}
+use Rattle.base.specs.declared.refusal.Refusal.{Refusal}
+use Rattle.base.specs.declared.refusal.Refusal.TheVariants.{BitWithCount, SizeOutOfRange, ShortOutput}
 use Rattle.base.specs.Put.{put}
 use Rattle.address_spec.specs.declared.Address.{Address}
-use Rattle.address_spec.specs.declared.Parsed.{Parsed}
-use Rattle.address_spec.specs.declared.Parsed.TheVariants as parsed
 use Rattle.address_spec.specs.Elements.{Elements, elements_of}
-use Rattle.parser_spec.specs.Characters.{well_formed, utf8}
-use Rattle.address_spec.specs.Spelling.{address_of, accepted, form_of, separates}
 use Rattle.address_spec.proofs.Ranges.{Ranged, ranged}
 use Rattle.address_readings.specs.declared.Reading.{Reading}
-use Rattle.address_readings.specs.declared.Reading.TheVariants.{New, Stored}
-use Rattle.address_readings.specs.Readings.{retired, address_in}
+use Rattle.address_readings.specs.Readings.{address_in}
 use Rattle.address_readings.proofs.Readings.{taken}
 use Rattle.request_frame.specs.declared.Requestor.{Requestor}
-use Rattle.request_spec.specs.declared.Request.TheVariants as request
 use Rattle.request_spec.specs.Request.{Asked, refused, sends, bit_and_count, read_size, read_message, read_address, on_address, reading, Builds}
 use Rattle.request_spec.proofs.ElementsTold.{InFields, read_told}
 use Rattle.theorem_one_request.specs.OneRequest.{OneRequest, Accepts, OneRequestOfCalls, OneRequestByOneLength}
@@ -35,49 +31,23 @@ record Sent (q : Requestor) (sequence : ℕ) (x : Address) (m : List ℕ) : Type
 in_fields : {e : Elements} → Ranged e → InFields e
 in_fields r = (omega (arith, r.file), omega (arith, r.element), omega (arith, r.position))
 
--- a refusal has a number, 0 is none
-abbrev Some : Parsed → Type 0
-Some (parsed.Refused k) = 0 < k
-Some (parsed.Is x) = Unit {0}
-
-some_number : (tag : List ℕ) → Some (address_of tag)
-unfolding address_of
-some_number tag = go (leb (length tag) 255 && well_formed tag) (form_of utf8 separates tag)
-  where
-    go : (b : Bool) (f : Option Address) → Some (cond b (accepted f) (parsed.Refused 1))
-    go true none = omega arith
-    go true (some x) = tt
-    go false f = omega arith
-
-some_number_in : (tag : List ℕ) (ρ : Reading) → Some (address_in ρ tag)
-unfolding address_in
-some_number_in tag Stored = some_number tag
-some_number_in tag New = go (retired tag)
-  where
-    go : (b : Bool) → Some (cond b (parsed.Refused 39) (address_of tag))
-    go true = omega arith
-    go false = some_number tag
-
 abbrev Reads : Requestor → ℕ → Asked → Type 0
-Reads q sequence (refused k) = 0 < k
+Reads q sequence (refused e) = Unit {0}
 Reads q sequence (sends x m) = Sent q sequence x m
 
 reads : (tag : List ℕ) (ρ : Reading) (q : Requestor) (sequence : ℕ) (out : List ℕ) → Reads q sequence (reading tag ρ q sequence out)
 unfolding on_address read_address
 reads tag ρ q sequence out = go (address_in ρ tag) refl
   where
-    by_tests : (x : Address) → address_in ρ tag ≡ parsed.Is x → (a b c : Bool) → Reads q sequence (cond a (refused 3) (cond b (cond c (sends x (read_message q sequence (elements_of x))) (refused 6)) (refused 5)))
-    by_tests x e true b c = omega arith
-    by_tests x e false false c = omega arith
-    by_tests x e false true false = omega arith
+    by_tests : (x : Address) → address_in ρ tag ≡ Ok x → (a b c : Bool) → Reads q sequence (cond a (refused BitWithCount) (cond b (cond c (sends x (read_message q sequence (elements_of x))) (refused ShortOutput)) (refused SizeOutOfRange)))
+    by_tests x e true b c = tt
+    by_tests x e false false c = tt
+    by_tests x e false true false = tt
     by_tests x e false true true = record { bytes = refl; range = in_fields (ranged tag x (taken ρ tag x e)) }
 
-    go : (p : Parsed) → address_in ρ tag ≡ p → Reads q sequence (on_address p (read_address q sequence (length out)))
-    go (parsed.Refused k) e = subst Some e (some_number_in tag ρ)
-    go (parsed.Is x) e = by_tests x e (bit_and_count x) (leb (read_size (elements_of x)) 255) (leb 27 (length out))
-
-pub refusal_some : (tag : List ℕ) (ρ : Reading) (q : Requestor) (sequence : ℕ) (out : List ℕ) (k : ℕ) → reading tag ρ q sequence out ≡ refused k → 0 < k
-refusal_some tag ρ q sequence out k h = subst (Reads q sequence) h (reads tag ρ q sequence out)
+    go : (p : Result Address Refusal) → address_in ρ tag ≡ p → Reads q sequence (on_address p (read_address q sequence (length out)))
+    go (Err k) e = tt
+    go (Ok x) e = by_tests x e (bit_and_count x) (leb (read_size (elements_of x)) 255) (leb 27 (length out))
 
 -- the elements of two messages, with anything behind them
 told : {q : Requestor} {sequence : ℕ} {x y : Address} {m n : List ℕ} → Sent q sequence x m → Sent q sequence y n → (r s : List ℕ) → m ++ r ≡ n ++ s → elements_of x ≡ elements_of y
@@ -109,12 +79,12 @@ module _ {q : Requestor} {sequence : ℕ} where
   unfolding put
   message a = go (reading a.tag a.how q sequence a.out) refl a.meets
     where
-      go : (o : Asked) → reading a.tag a.how q sequence a.out ≡ o → Builds o a.out (request.Built a.address a.length) a.left → Message a
-      go (refused k) e b = let h : request.Built a.address a.length ≡ request.Refused k = b.answer in absurd (let w : ◌≡◌ {A = ℕ} 0 1 = cc in omega arith)
+      go : (o : Asked) → reading a.tag a.how q sequence a.out ≡ o → Builds o a.out (Ok (a.address, a.length)) a.left → Message a
+      go (refused k) e b = absurd (cc b.answer)
       go (sends y m) e b =
-          let h : request.Built a.address a.length ≡ request.Built y (length m) = b.answer in
-          let x : y ≡ a.address = cc in
-          let n : a.length ≡ length m = cc in
+          let h : ◌≡◌ {A = Address × ℕ} (a.address, a.length) (y, length m) = cc b.answer in
+          let x : y ≡ a.address = sym (ap (λ (z : Address × ℕ). z.0) h) in
+          let n : a.length ≡ length m = ap (λ (z : Address × ℕ). z.1) h in
           let w : a.left ≡ m ++ drop (0 + length m) a.out = b.now in
           record {
             bytes = m;

@@ -1,12 +1,11 @@
 -- One request, one set of elements (document 02, A8): "two accepted read addresses, sent with one requester and one sequence number, give the same bytes exactly when
 -- type, file, element, position (a missing one counts as 0) and count agree". `elements_of` an address is these five; "the bit isn't on the wire". Each tag is
 -- read in its own way (A12).
-use Rattle.std.specs.Prelude.{ℕ, ◌≡◌, ◌↔◌, List, take}
+use Rattle.std.specs.Prelude.{ℕ, ◌≡◌, ◌↔◌, List, Ok, take}
 use Rattle.address_spec.specs.declared.Address.{Address}
 use Rattle.address_spec.specs.Elements.{elements_of}
 use Rattle.address_readings.specs.declared.Reading.{Reading}
 use Rattle.request_frame.specs.declared.Requestor.{Requestor}
-use Rattle.request_spec.specs.declared.Request.TheVariants as request
 use Rattle.request_spec.specs.Request.{sends, reading, Builds}
 
 abbrev pub OneRequest : Type 0
@@ -23,7 +22,7 @@ pub record Accepts (q : Requestor) (sequence : ℕ) : Type 0 where
   pub left : List ℕ
   pub address : Address
   pub length : ℕ
-  pub meets : Builds (reading tag how q sequence out) out (request.Built address length) left
+  pub meets : Builds (reading tag how q sequence out) out (Ok (address, length)) left
 
 -- compared by as many bytes of each output as its call answers
 abbrev pub OneRequestOfCalls : Type 0

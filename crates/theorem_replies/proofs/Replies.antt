@@ -1,9 +1,9 @@
 -- A client reads of the processor's reply what the processor put there, whatever the length of the requester's id.
+use Rattle.std.specs.Prelude.{Some}
 use Prim.Native.Nat.{ℕ, zero, suc, ◌+◌, ◌≤◌, ◌<◌}
 use mathlib.Core.Path.{◌≡◌, sym, ap, ◌∙◌}
 use mathlib.Core.Bool.{true, ◌&&◌}
 use mathlib.Core.List.{List, [], ◌∷◌, ◌++◌}
-use mathlib.Core.Option.{some}
 use native.Mathlib.Omega.{arith}
 use borrow.Author.Tests.{leb-true, ltb-true}
 use lib.Dec.{leb, ltb}
@@ -40,7 +40,7 @@ module _ (c : List ℕ) (status : ℕ) (bs : List ℕ) (w : well_formed c ≡ tr
   reply_part_lem = part_of c _ behind asked.0 asked.1
 
   -- the status in words is that of the status and of the byte behind the sequence number; the data are the datalog entry
-  pub reply_says : reply_status (framed c status bs) ≡ said (some status) (first bs)
+  pub reply_says : reply_status (framed c status bs) ≡ said (Some status) (first bs)
   unfolding status_in
   reply_says = ap status_in reply_part_lem
 

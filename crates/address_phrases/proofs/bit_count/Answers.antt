@@ -1,16 +1,12 @@
 use Rattle.address_spec.specs.Spelling.{bit_count}
-use Rattle.address_spec.proofs.FormReaders.{phrases}
+use Rattle.address_phrases.proofs.FormReaders.{phrases}
 use borrow.Author.Rules.{rules}
 use Rattle.address_phrases.proofs.bit_count.Goals as goal
 
-pub returns-in_default : goal.returns-in_default
+pub returns-in_err-n : goal.returns-in_err-n
 unfolding bit_count
-returns-in_default c = search (phrases, rules)
-
-pub returns-in_default-count : goal.returns-in_default-count
-unfolding bit_count
-returns-in_default-count c = search (phrases, rules)
+returns-in_err-n c = search (phrases, c.in_ok-b.was, c.in_err-n.was, rules)
 
 pub returns : goal.returns
 unfolding bit_count
-returns c = search (phrases, rules)
+returns c = search (phrases, c.in_ok-b.was, c.in_ok-n.was, rules)

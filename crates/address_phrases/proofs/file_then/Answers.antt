@@ -1,16 +1,12 @@
 use Rattle.address_spec.specs.Spelling.{file_before}
-use Rattle.address_spec.proofs.FormReaders.{phrases}
+use Rattle.address_phrases.proofs.FormReaders.{phrases}
 use borrow.Author.Rules.{rules}
 use Rattle.address_phrases.proofs.file_then.Goals as goal
 
-pub returns-in_default : goal.returns-in_default
+pub returns-in_err-e : goal.returns-in_err-e
 unfolding file_before
-returns-in_default c = search (phrases, rules)
-
-pub returns-in_default-eat : goal.returns-in_default-eat
-unfolding file_before
-returns-in_default-eat c = search (phrases, rules)
+returns-in_err-e c = search (phrases, c.in_ok-f.was, c.in_err-e.was, rules)
 
 pub returns : goal.returns
 unfolding file_before
-returns c = search (phrases, rules)
+returns c = search (phrases, c.in_ok-f.was, c.in_ok-e.was, rules)

@@ -1,12 +1,8 @@
-use Prim.Native.Nat.{◌≤◌, ◌-◌}
 use mathlib.Core.Path.{◌≡◌}
-use lib.ListN.{length, drop}
+use lib.ListN.{drop}
 use Rattle.parser_spec.specs.Characters.{character}
 use Rattle.address_spec.specs.Spelling.{separates, cuts, element_name}
 use Rattle.address_timers.proofs.element_name.Given as goal
 
 abbrev pub invariant-loop-k : goal.invariant-loop-k
-invariant-loop-k l = (l.k ≤ length l.s - l.c.i) × (cuts character separates l.k (drop l.c.i l.s) ≡ element_name character separates (drop l.c.i l.s))
-
-abbrev pub decreases-loop-k : goal.decreases-loop-k
-decreases-loop-k l = l.k
+invariant-loop-k l = cuts character separates l.k (drop l.c.i l.s) ≡ element_name character separates (drop l.c.i l.s)

@@ -1,4 +1,4 @@
-use Prim.Native.Nat.{◌+◌, ◌-◌, ◌≤◌}
+use Prim.Native.Nat.{◌+◌, ◌-◌}
 use mathlib.Core.Path.{◌≡◌}
 use lib.ListN.{length}
 use Rattle.base.specs.Numbers.{low_first}
@@ -6,7 +6,4 @@ use Rattle.base.specs.Put.{put}
 use Rattle.base.proofs.lay_number.Given as goal
 
 abbrev pub invariant-loop-i : goal.invariant-loop-i
-invariant-loop-i l = (l.i ≤ l.k) × (length l.out ≡ length l.initial.out) × (put l.out (l.at + l.i) (low_first (l.k - l.i) l.rest) ≡ put l.initial.out l.at (low_first l.k l.n))
-
-abbrev pub decreases-loop-i : goal.decreases-loop-i
-decreases-loop-i l = l.k - l.i
+invariant-loop-i l = (length l.out ≡ length l.initial.out) × (put l.out (l.at + l.i) (low_first (l.k - l.i) l.rest) ≡ put l.initial.out l.at (low_first l.k l.n))

@@ -9,11 +9,11 @@ returns-then-s-name c = search (spelled_short, rules)
 pub loop-i-init : goal.loop-i-init
 loop-i-init c = refl
 
-pub returns-then-letter-name : goal.returns-then-letter-name
-returns-then-letter-name c = search (spelled_off, rules)
+pub returns-then-letter-a : goal.returns-then-letter-a
+returns-then-letter-a c = search (spelled_off, rules)
 
 pub loop-i-preserved : goal.loop-i-preserved
-loop-i-preserved c = spelled_on _ _ _ _ c.if-s-name.false c.loop-i.invariant _ c.loop-i-test.true c.letter.ensures c.if-letter-name.false
+loop-i-preserved c = spelled_on _ _ _ _ c.if-s-name.false c.loop-i.invariant _ c.loop-i-test.true c.letter.ensures c.if-letter-a.false
 
 pub returns : goal.returns
 returns c = search (spelled_end, rules)

@@ -5,8 +5,9 @@ use mathlib.Core.List.{List, [], ◌∷◌, ◌++◌, append_assoc, append-nil}
 use mathlib.Core.Bool.{Bool, true, false, cond}
 use native.Mathlib.Nat.{add-zero}
 use native.Mathlib.Omega.{arith}
-use lib.ListN.{length, take, drop, length-append, drop_of_length-le}
-use lib.Seq.{length-take-le, drop_at, drop-drop, drop-append-le, take-add, take_all}
+use lib.ListN.{length, take, drop, get_or, length-append, drop_of_length-le}
+use Rattle.std.proofs.lemmas.List.{take_more}
+use lib.Seq.{length-take-le, drop_at, drop-drop, drop-append-le, take_all}
 use mir.Syntax.{w64}
 use mir.Val.{Fits}
 use Rattle.base.specs.Put.{Wrote, Puts}
@@ -44,9 +45,10 @@ module _ (out : List ℕ) (p : Pending) (bs : List ℕ) where
   behind h = drop_at (take p.at out) bs p.at (length-take-le p.at out h)
 
   -- there was none: what waited was written out, and it waits alone
-  pub said_alone : {out' : List ℕ} {r : ℕ} {t : Bool} → length out < p.at + length bs → length bs ≤ length out → (p.good ≡ false → t ≡ false) → Puts out 0 bs r out' → Said out p bs (record { at = r; good = t }) out'
-  said_alone {out'} {r} h g s w =
+  pub said_alone : {o out' : List ℕ} {r : ℕ} {t : Bool} → length out < p.at + length bs → length bs ≤ length out → (p.good ≡ false → t ≡ false) → o ≡ out → Puts o 0 bs r out' → Said out p bs (record { at = r; good = t }) out'
+  said_alone {o} {out'} {r} h g s e u =
       let n : 0 + length bs ≤ length out = omega arith in
+      let w : Puts out 0 bs r out' = subst (λ (l : List ℕ). Puts l 0 bs r out') e u in
       let v = puts_wrote w n in
       let f : r ≤ length out' = omega (arith, v.end, wrote_length v n) in
       record {
@@ -60,8 +62,8 @@ module _ (out : List ℕ) (p : Pending) (bs : List ℕ) where
       }
 
   -- it was longer than the buffer, and was written out too
-  pub said_straight : {q t : Bool} → length out < length bs → (p.good ≡ false → q ≡ false) → (q ≡ false → t ≡ false) → Said out p bs (record { at = 0; good = t }) out
-  said_straight h s u = record {
+  pub said_straight : {o : List ℕ} {k : ℕ} {q t : Bool} → length out < length bs → (p.good ≡ false → q ≡ false) → o ≡ out → k ≡ 0 → (q ≡ false → t ≡ false) → Said out p bs (record { at = k; good = t }) o
+  said_straight h s i j u = rw (i, j) (record {
     fits = omega arith;
     counts = refl;
     room = λ k. absurd (omega arith);
@@ -69,7 +71,7 @@ module _ (out : List ℕ) (p : Pending) (bs : List ℕ) where
     waits =
         λ k. (let z : length (take p.at out ++ bs) ≤ p.at + length bs - 0 = rw (length-append, length-take-le p.at out k) (omega arith) in sym (drop_of_length-le (take p.at out ++ bs) z));
     shut = λ e. u (s e);
-  }
+  })
 
 -- ---- one text after the other
 drop_both : (k j : ℕ) (x bs : List ℕ) → j ≤ length x → drop k (drop j x ++ bs) ≡ drop (j + k) (x ++ bs)
@@ -113,24 +115,23 @@ module _ (t x bs : List ℕ) (e : ℕ) (w : Puts t 0 bs e x) (h : length bs ≤ 
   laid_said {out} {out'} {p} {r} s =
       subst (λ (l : List ℕ). Said out p l r out') (ap₂ take laid.end laid.now ∙ put_front t 0 bs (omega arith)) s
 
-pub hex_small : (bs : List ℕ) → length bs ≤ 256 → length (hex bs) ≤ 512
-hex_small bs h = omega (arith, hex_length bs)
+pub hex_small : (b : ℕ) → length (hex (b ∷ [])) ≤ 2
+hex_small b = omega (arith, hex_length (b ∷ []))
 
 pub decimal_small : (n : ℕ) → Fits w64 n → length (decimal n) ≤ 20
 decimal_small n f = decimal_length 19 n (omega (arith, f.fits))
 
--- ---- digits in pieces
+-- ---- digits byte by byte
 hex_append : (bs cs : List ℕ) → hex (bs ++ cs) ≡ hex bs ++ hex cs
 unfolding hex
 hex_append [] cs = refl
 hex_append (b ∷ bs) cs = ap (λ (l : List ℕ). digit (b / 16) ∷ digit (b % 16) ∷ l) (hex_append bs cs)
 
 module _ {out₀ out : List ℕ} {q₀ q : Pending} (bs : List ℕ) (i : ℕ) (a : Said out₀ q₀ (hex (take i bs)) q out) where
-  pub hex_turn : (j : ℕ) {r : Pending} {out' : List ℕ} → length out ≡ length out₀ → i < j → Said out q (hex (take (j - i) (drop i bs))) r out' → Said out₀ q₀ (hex (take j bs)) r out'
-  hex_turn j {r} {out'} len h b =
-      let n : i + (j - i) ≡ j = omega arith in
-      let e : hex (take i bs) ++ hex (take (j - i) (drop i bs)) ≡ hex (take j bs) = sym (hex_append (take i bs) (take (j - i) (drop i bs))) ∙ ap hex (sym (take-add i (j - i) bs)) ∙ ap (λ (k : ℕ). hex (take k bs)) n in
-      subst (λ (l : List ℕ). Said out₀ q₀ l r out') e (said_then len a b)
+  pub hex_turn : {b : ℕ} {r : Pending} {out' : List ℕ} → length out ≡ length out₀ → i < length bs → b ≡ get_or bs i 0 → Said out q (hex (b ∷ [])) r out' → Said out₀ q₀ (hex (take (i + 1) bs)) r out'
+  hex_turn {b} {r} {out'} len h d s =
+      let e : hex (take i bs) ++ hex (b ∷ []) ≡ hex (take (i + 1) bs) = sym (hex_append (take i bs) (b ∷ [])) ∙ ap hex (ap (λ (x : ℕ). take i bs ++ (x ∷ [])) d ∙ sym (take_more bs i 0 h)) in
+      subst (λ (l : List ℕ). Said out₀ q₀ l r out') e (said_then len a s)
 
   pub hex_done : {l : List ℕ} {p : Pending} → length bs ≤ i → length out₀ ≡ length l → Said l p [] q₀ out₀ → Said l p (hex bs) q out
   hex_done h len b = said_then len b (subst (λ (x : List ℕ). Said out₀ q₀ (hex x) q out) (take_all i bs h) a)
@@ -151,9 +152,9 @@ hex_start out q bs h = said_none out q h
 
 -- ---- answers
 module _ {k l m n : List ℕ} {p q r t : Pending} (f : length l ≡ length k) (g : length m ≡ length l) where
-  pub said_refused : (x : ℕ) → Said k p (bytes "refused ") q l → Said l q (decimal x) r m → Said m r (10 ∷ []) t n → Said k p (refused_line x) t n
+  pub said_refused : (x : ℕ) {y : ℕ} → y ≡ x → Said k p (bytes "refused ") q l → Said l q (decimal y) r m → Said m r (10 ∷ []) t n → Said k p (refused_line x) t n
   unfolding refused_line
-  said_refused x a b c = said_then f a (said_then g b c)
+  said_refused x e a b c = rw (← e) (said_then f a (said_then g b c))
 
   pub said_error : (x : List ℕ) → Said k p (bytes "error ") q l → Said l q x r m → Said m r (10 ∷ []) t n → Said k p (error_line x) t n
   unfolding error_line

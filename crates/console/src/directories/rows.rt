@@ -1,84 +1,54 @@
 // `dir FIRSTROW ROWSIZE DATA`: `ok n CODE:number:elements:length ..`, said row by row
-ghost use Rattle.std.specs.Prelude.{◌≡◌, ◌≤◌, length, take};
+use crate::answers::Text;
+use crate::lines::Call;
+use crate::output::Output;
+use std::fmt;
+use std::fmt::Write;
 
-use crate::lines::Args;
-use crate::output::Pending;
-use directory::Listed;
-
-pub fn say_dir(rt: &impl Print, a: Args, space: &[u8], out: &mut [u8], p: Pending) -> Pending {
-    let bytes = crate::lines::part(space, a, 2);
-    if bytes.len() <= 512 {
-        return few(rt, a, bytes, out, p);
+// No directory has more files than bytes, so that these have room for all.
+pub fn say_dir<R: Print>(out: &mut Output<'_, R>, call: Call<'_>) {
+    if call.bytes(2).len() <= 512 {
+        let mut files = [[0u32; 4]; 512];
+        parsed(out, call, &mut files);
+    } else {
+        let mut files = [[0u32; 4]; 65535];
+        parsed(out, call, &mut files);
     }
-    many(rt, a, bytes, out, p)
-}
-
-// No directory has more files than bytes, so these have room for all.
-fn few(rt: &impl Print, a: Args, bytes: &[u8], out: &mut [u8], p: Pending) -> Pending {
-    let none = [0u32; 4];
-    let mut files = [none; 512];
-    parsed(rt, a, bytes, &mut files, out, p)
-}
-
-fn many(rt: &impl Print, a: Args, bytes: &[u8], out: &mut [u8], p: Pending) -> Pending {
-    let none = [0u32; 4];
-    let mut files = [none; 65535];
-    parsed(rt, a, bytes, &mut files, out, p)
 }
 
 // The output has `room` files.
-fn parsed(
-    rt: &impl Print,
-    a: Args,
-    bytes: &[u8],
-    files: &mut [[u32; 4]],
-    out: &mut [u8],
-    p: Pending,
-) -> Pending {
-    let n = within(a.room, files);
-    let first = crate::lines::number(a, 0) as usize;
-    let size = crate::lines::number(a, 1) as usize;
-    match directory::parse_file_directory(first, size, bytes, &mut files[..n]) {
-        Listed::Refused(k) => crate::answers::refused(rt, out, p, k),
-        Listed::Files(m) => listed(rt, files, m, out, p),
+fn parsed<R: Print>(out: &mut Output<'_, R>, call: Call<'_>, files: &mut [[u32; 4]]) {
+    let room = call.room.min(files.len());
+    let first = call.number(0) as usize;
+    let size = call.number(1) as usize;
+    let rows = &mut files[..room];
+    match directory::parse_file_directory(first, size, call.bytes(2), rows) {
+        Err(refusal) => out.refused(refusal),
+        Ok(n) => listed(out, &rows[..n.min(rows.len())]),
     }
 }
 
-// A number of files that there is room for.
-fn within(n: usize, files: &[[u32; 4]]) -> usize
-    ensures { (result ≤ length files.now) × (result ≡ length (take result files.now)) }
-{
-    if n < files.len() {
-        return n;
+fn listed<R: Print>(out: &mut Output<'_, R>, files: &[[u32; 4]]) {
+    out.plain(b"ok ");
+    out.number(files.len() as u64);
+    for f in files {
+        file(out, f);
     }
-    files.len()
+    out.plain(b"\n");
 }
 
-fn listed(rt: &impl Print, files: &[[u32; 4]], n: usize, out: &mut [u8], p: Pending) -> Pending {
-    let k = base::least(n, files.len());
-    let a = crate::output::plain(rt, out, p, b"ok ");
-    let mut q = crate::output::number(rt, out, a, k as u64);
-    let mut i = 0;
-    while i < k {
-        q = file(rt, files[i], out, q);
-        i += 1;
-    }
-    crate::output::plain(rt, out, q, b"\n")
+fn file<R: Print>(out: &mut Output<'_, R>, f: &[u32; 4]) {
+    let mut memory = [0u8; 64];
+    let mut text = Text::new(&mut memory);
+    let _ = row(f, &mut text);
+    let n = text.len().min(64);
+    out.plain(&memory[..n]);
 }
 
-fn file(rt: &impl Print, f: [u32; 4], out: &mut [u8], p: Pending) -> Pending {
-    let mut text = [0u8; 64];
-    say_row(rt, f, &mut text, out, p)
-}
-
-fn say_row(rt: &impl Print, f: [u32; 4], text: &mut [u8], out: &mut [u8], p: Pending) -> Pending {
-    let k = text::within(row(f, text), text);
-    crate::output::plain(rt, out, p, &text[..k])
-}
-
-fn row(f: [u32; 4], text: &mut [u8]) -> usize {
-    let a = crate::answers::put_code(text, 0, b' ', (f[0] % 256) as u8);
-    let b = crate::answers::put_number(text, a, b':', f[1] as u64);
-    let c = crate::answers::put_number(text, b, b':', f[2] as u64);
-    crate::answers::put_number(text, c, b':', f[3] as u64)
+fn row(f: &[u32; 4], text: &mut Text<'_>) -> fmt::Result {
+    let code = f[0] % 256;
+    let number = f[1];
+    let elements = f[2];
+    let length = f[3];
+    write!(text, " {code:02X}:{number}:{elements}:{length}")
 }

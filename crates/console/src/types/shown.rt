@@ -1,41 +1,40 @@
 // File types as answers show them.
-use crate::answers::Answer;
-use file_type::{FileType, Name};
+use crate::answers::Text;
+use file_type::FileType;
+use std::fmt;
+use std::fmt::Write;
 
-fn name(n: Name, memory: &mut [u8], at: usize) -> usize {
-    let text = n.text;
-    let len = text::within(n.len, &text);
-    crate::answers::put_byte_string(memory, at, b' ', &text[..len])
+// A name is shown as its bytes.
+fn name(n: &str, text: &mut Text<'_>) -> fmt::Result {
+    write!(text, " ")?;
+    text.byte_string(n.as_bytes());
+    Ok(())
 }
 
 // NAME size CODE
-pub fn file_type(t: FileType, memory: &mut [u8]) -> usize {
-    let a = name(t.name(), memory, 0);
-    let b = crate::answers::put_number(memory, a, b' ', t.element_size() as u64);
-    crate::answers::put_code(memory, b, b' ', t.code())
+pub fn file_type(t: FileType, text: &mut Text<'_>) -> fmt::Result {
+    name(t.name(), text)?;
+    let size = t.element_size();
+    let code = t.code();
+    write!(text, " {size} {code:02X}")
 }
 
 // One of the simulator's types; T, C and R with the names of words 1 and 2 and of the status bits from bit 15 down.
-pub fn simulated(t: FileType, memory: &mut [u8]) -> Answer {
-    if !t.simulated() {
-        return Answer::Nothing;
+pub fn simulated(t: FileType, text: &mut Text<'_>) -> fmt::Result {
+    file_type(t, text)?;
+    for i in 0..2 {
+        if let Some(n) = file_type_fields::word_name(t, i) {
+            name(n, text)?;
+        }
     }
-    let a = file_type(t, memory);
-    if file_type_fields::bits(t) == 0 {
-        return Answer::Text(a);
-    }
-    let b = name(file_type_fields::word_name(t, 0), memory, a);
-    let c = name(file_type_fields::word_name(t, 1), memory, b);
-    Answer::Text(bits(t, memory, c))
+    bits(t, text)
 }
 
-fn bits(t: FileType, memory: &mut [u8], at: usize) -> usize {
-    let n = file_type_fields::bits(t);
-    let mut place = at;
-    let mut i = 0;
-    while i < n {
-        place = name(file_type_fields::bit_name(t, i), memory, place);
-        i += 1;
+fn bits(t: FileType, text: &mut Text<'_>) -> fmt::Result {
+    for i in 0..file_type_fields::bits(t) {
+        if let Some(n) = file_type_fields::bit_name(t, i) {
+            name(n, text)?;
+        }
     }
-    place
+    Ok(())
 }

@@ -1,15 +1,8 @@
-use Rattle.element_set_field.proofs.SetField.{whole_out, whole_in, no_place, cut_off}
-use borrow.Author.Rules.{rules}
+use mathlib.Core.Path.{ap, ◌∙◌}
+use Rattle.std.specs.Result.{result_ok}
+use Rattle.element_set_field.proofs.SetField.{whole_in}
+use native.Mathlib.Omega.{arith}
 use Rattle.element_set_field.proofs.put_whole.Goals as goal
 
-pub returns-then-element-at : goal.returns-then-element-at
-returns-then-element-at c = search (no_place, rules)
-
-pub returns-then-element-at-2 : goal.returns-then-element-at-2
-returns-then-element-at-2 c = search (cut_off, rules)
-
-pub returns-in_default : goal.returns-in_default
-returns-in_default c = search (whole_out, rules)
-
 pub returns : goal.returns
-returns c = search (whole_in, rules)
+returns c = whole_in _ _ _ _ _ c.args.n _ _ c.ranges.n c.bits_of.ensures (omega arith) (omega arith) _ (c.ok_or.ensures.ok_part ∙ ap result_ok c.in_ok-bits.was) c.put_number.ensures

@@ -7,4 +7,4 @@ pub slice_bounds-put_all-end-2 : goal.slice_bounds-put_all-end-2
 slice_bounds-put_all-end-2 c = sym (cut_length _ _ (search rules))
 
 pub returns : goal.returns
-returns c = string_done _ _ c.least-n.ensures c.put_number.ensures c.put_all.ensures _ c.swap_pairs.ensures
+returns c = string_done _ _ c.min-n.ensures c.put_number.ensures c.put_all.ensures _ c.swap_pairs.ensures

@@ -1,21 +1,15 @@
-use mathlib.Core.Path.{refl}
+use Prim.Native.Nat.{◌*◌}
+use mathlib.Core.Path.{refl, ◌∙◌}
 use native.Mathlib.Omega.{arith}
-use lib.ListN.{length-set}
 use Rattle.element_text.proofs.Swap.{swap_start, swap_turn, swap_end}
-use borrow.Author.Rules.{rules}
 use Rattle.element_text.proofs.swap_pairs.Goals as goal
 
-pub loop-bytes-init : goal.loop-bytes-init
-loop-bytes-init c = (omega arith, refl, swap_start _)
+pub loop-i-init : goal.loop-i-init
+loop-i-init c = (refl, swap_start _)
 
-pub bounds-bytes-i-in-loop-bytes-3 : goal.bounds-bytes-i-in-loop-bytes-3
-bounds-bytes-i-in-loop-bytes-3 c = simp length-set (omega arith)
-
-pub loop-bytes-smaller : goal.loop-bytes-smaller
-loop-bytes-smaller c = simp length-set (omega arith)
-
-pub loop-bytes-preserved : goal.loop-bytes-preserved
-loop-bytes-preserved c = (simp length-set (omega arith), simp length-set (omega arith), search (swap_turn, rules))
+pub loop-i-preserved : goal.loop-i-preserved
+loop-i-preserved c =
+    (c.swap.ensures.len ∙ c.loop-i.invariant.0, rw c.swap.ensures.after (swap_turn _ c.loop-i.bytes (2 * c.loop-i.i) c.loop-i.invariant.1 (omega arith) (omega arith)))
 
 pub returns : goal.returns
-returns c = search (swap_end, rules)
+returns c = swap_end _ c.loop-i.bytes (2 * c.loop-i.i) c.loop-i.invariant.1 (omega arith) (omega arith)

@@ -1,9 +1,5 @@
-use Rattle.link_texts.proofs.LaidTexts.{no_room, laid}
-use borrow.Author.Rules.{rules}
+use Rattle.link_texts.proofs.LaidTexts.{laid}
 use Rattle.link_texts.proofs.laid.Goals as goal
 
-pub returns-then-out-bytes : goal.returns-then-out-bytes
-returns-then-out-bytes c = search (no_room, rules)
-
 pub returns : goal.returns
-returns c = search (laid, rules)
+returns c = laid _ _ c.if-out-bytes.false c.put_all.ensures c.written_record-2.ensures

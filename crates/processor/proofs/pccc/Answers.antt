@@ -1,15 +1,8 @@
-use Rattle.processor_spec.specs.Pccc.{pccc_of}
-use Rattle.processor_query.specs.Query.{query_of}
-use Rattle.processor_directory.specs.Listing.{directory_of}
-use Rattle.processor_refinement.specs.CallBySurvey.{respond_of, show_of}
-use Rattle.processor_walks.proofs.Choosing.{shows, answers}
-use Rattle.processor.proofs.ByQuery.{fits}
+use Rattle.processor.proofs.Choosing.{shows, answers}
 use Rattle.processor.proofs.pccc.Goals as goal
 
-pub returns-then-q : goal.returns-then-q
-returns-then-q c =
-    shows query_of directory_of show_of respond_of pccc_of fits _ _ _ _ _ _ _ c.asked-q.ensures _ c.survey-s.ensures _ _ c.directory-d.ensures c.if-q.true c.show.ensures
+pub returns-in-Some : goal.returns-in-Some
+returns-in-Some c = shows _ _ _ _ _ _ _ c.asked-q.ensures _ c.survey-s.ensures _ c.directory.ensures _ _ _ c.directory-d.ensures c.in-Some.is c.show.ensures
 
-pub returns-else-q : goal.returns-else-q
-returns-else-q c =
-    answers query_of directory_of show_of respond_of pccc_of fits _ _ _ _ _ _ _ c.asked-q.ensures _ c.survey-s.ensures _ c.if-q.false c.respond.ensures
+pub returns-in-None : goal.returns-in-None
+returns-in-None c = answers _ _ _ _ _ _ _ c.asked-q.ensures _ c.survey-s.ensures _ c.directory.ensures _ c.in-None.is c.respond.ensures

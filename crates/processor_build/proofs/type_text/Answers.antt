@@ -1,9 +1,5 @@
-use Rattle.processor_build.proofs.Finishing.{cut_length, text_is}
-use borrow.Author.Rules.{rules}
+use Rattle.processor_build.proofs.Finishing.{text_is}
 use Rattle.processor_build.proofs.type_text.Goals as goal
 
-pub slice_bounds-put_all-end-2 : goal.slice_bounds-put_all-end-2
-slice_bounds-put_all-end-2 c = search (cut_length, rules)
-
 pub returns : goal.returns
-returns c = text_is _ _ c.least-n.ensures _ _ c.put_all.ensures
+returns c = text_is _ _ c.min-n.ensures _ c.copy_from_slice.ensures.after

@@ -1,3 +1,5 @@
+use Rattle.std.proofs.Common.{◌≡◌, ◌∙◌, take, drop}
+use Rattle.base.specs.Numbers.{number}
 use Rattle.processor_locate.proofs.Locating.{part_length}
 use Rattle.processor_respond.proofs.OldestEntry.{begin_fits, end_fits, entry_small, popped_none, popped_there}
 use Rattle.processor_refinement.proofs.Replying.{told}
@@ -14,4 +16,6 @@ pub overflow_add-at : goal.overflow_add-at
 overflow_add-at c = search (begin_fits, rules)
 
 pub returns : goal.returns
-returns c = search (popped_there, told, part_length, entry_small, rules)
+returns c =
+    let n : c.from-n.result ≡ number (take 2 (drop c.args.slc.log_at c.args.log.now)) = c.from-n.ensures ∙ c.word_at.ensures in
+    search (popped_there, told, part_length, entry_small, rules)

@@ -6,8 +6,8 @@ use Rattle.processor_respond.proofs.respond.Goals as goal
 pub obey-requires : goal.obey-requires
 obey-requires c = record { command_value = search (well_there, rules); log_value = search (log_good, rules); in_bounds = search (room_there, rules) }
 
-pub returns-in-Number : goal.returns-in-Number
-returns-in-Number c = search (refused_by_lem, rules)
+pub returns-in-Err : goal.returns-in-Err
+returns-in-Err c = search (refused_by_lem, rules)
 
-pub returns-in-None : goal.returns-in-None
-returns-in-None c = search (responded, rules)
+pub returns : goal.returns
+returns c = search (responded, rules)

@@ -6,8 +6,8 @@ use Rattle.processor_show_directory.proofs.show.Goals as goal
 pub list-requires : goal.list-requires
 list-requires c = record { command_value = search (well_there, rules); in_bounds = search (room_there, rules) }
 
-pub returns-in-Number : goal.returns-in-Number
-returns-in-Number c = search (unshown_by, rules)
+pub returns-in-Err : goal.returns-in-Err
+returns-in-Err c = search (unshown_by, rules)
 
-pub returns-in-None : goal.returns-in-None
-returns-in-None c = search (shown, rules)
+pub returns : goal.returns
+returns c = search (shown, rules)

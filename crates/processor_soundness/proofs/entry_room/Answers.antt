@@ -5,8 +5,8 @@ use Rattle.processor_soundness.proofs.entry_room.Goals as goal
 pub returns-then-log-at : goal.returns-then-log-at
 returns-then-log-at c = search (room_none, rules)
 
-pub returns-then-there-room : goal.returns-then-there-room
-returns-then-there-room c = search (room_cut, rules)
+pub returns-then-log-at-2 : goal.returns-then-log-at-2
+returns-then-log-at-2 c = search (room_cut, rules)
 
 pub returns-then-room-gt257 : goal.returns-then-room-gt257
 returns-then-room-gt257 c = search (room_long, rules)

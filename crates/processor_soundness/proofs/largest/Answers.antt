@@ -1,21 +1,17 @@
-use Prim.Native.Nat.{◌+◌}
-use mathlib.Core.Path.{◌≡◌, ap, ◌∙◌}
-use native.Mathlib.Omega.{arith}
-use lib.ListN.{length, drop}
+use Rattle.std.proofs.Common.{◌+◌, ap, ◌∙◌, arith}
+use Rattle.std.proofs.Math.ListN.{drop}
 use Rattle.processor_soundness.specs.Tests.{largest_from}
 use Rattle.processor_soundness.proofs.TypeText.{largest_begins, largest_next, largest_last}
-use borrow.Author.Rules.{rules}
 use Rattle.processor_soundness.proofs.largest.Goals as goal
 
-pub loop-i-init : goal.loop-i-init
-loop-i-init c = (omega arith, largest_begins _)
+pub loop-b-init : goal.loop-b-init
+loop-b-init c = largest_begins _
 
-pub loop-i-preserved : goal.loop-i-preserved
-loop-i-preserved c =
-    let full : length c.args.text ≡ 11 = search rules in
-    (omega arith, ap (λ n. largest_from n (drop (c.loop-i.i + 1) c.args.text)) c.larger-most.ensures ∙ largest_next c.loop-i.most c.args.text c.loop-i.i (omega arith) ∙ c.loop-i.invariant.1)
+pub loop-b-preserved : goal.loop-b-preserved
+loop-b-preserved c =
+    ap (λ n. largest_from n (drop (c.loop-b.b-index + 1) c.args.text)) c.max-most.ensures
+    ∙ largest_next c.loop-b.most c.args.text c.loop-b.b-index (omega arith)
+    ∙ c.loop-b.invariant
 
 pub returns : goal.returns
-returns c =
-    let full : length c.args.text ≡ 11 = search rules in
-    largest_last c.loop-i.most c.args.text c.loop-i.i (omega arith) c.loop-i.invariant.1
+returns c = largest_last c.loop-b.most c.args.text c.loop-b.b-index (omega arith) c.loop-b.invariant

@@ -1,9 +1,12 @@
-use Rattle.question_text.proofs.QuestionLines.{no_question, question_told}
-use borrow.Author.Rules.{rules}
+use Rattle.std.specs.Prelude.{Some}
+use Prim.Native.Nat.{ℕ}
+use mathlib.Core.Path.{◌≡◌, ap, ◌∙◌}
+use mathlib.Core.List.{List}
+use Rattle.question_text.specs.Questions.{question_of}
+use Rattle.question_text.proofs.QuestionTexts.{question_told}
 use Rattle.question_text.proofs.question.Goals as goal
 
-pub returns-then-line-gt0 : goal.returns-then-line-gt0
-returns-then-line-gt0 c = search (question_told, rules)
-
-pub returns : goal.returns
-returns c = search (no_question, rules)
+pub returns-in-Some : goal.returns-in-Some
+returns-in-Some c =
+    let e : Some c.in-Some.text.now ≡ question_of c.args.number = rw c.in-Some.is at c.question_of.ensures in
+    question_told c.args.number _ (ap Some c.as_bytes.ensures.value ∙ e) c.say.ensures

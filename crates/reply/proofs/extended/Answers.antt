@@ -1,18 +1,11 @@
-use Rattle.reply.proofs.Status.{f0_short, f0_nothing, f0_refused, f0_room, f0_written}
-use borrow.Author.Rules.{rules}
+use Rattle.reply.proofs.Status.{f0_nothing, f0_room, f0_written}
 use Rattle.reply.proofs.extended.Goals as goal
 
-pub returns-then-extension-eq0 : goal.returns-then-extension-eq0
-returns-then-extension-eq0 c = search (f0_short, rules)
+pub returns-in_default : goal.returns-in_default
+returns-in_default c = absurd (f0_nothing c.args.extension.now _ _ _ c.pccc_error_text.ensures (cc))
 
 pub lay_hex-requires : goal.lay_hex-requires
-lay_hex-requires c = search (f0_room, rules)
+lay_hex-requires c = f0_room c.args.extension.now _ _ _ c.pccc_error_text.ensures (cc) c.in-len1-up.len_at_least
 
-pub returns-in-Nothing : goal.returns-in-Nothing
-returns-in-Nothing c = search (f0_nothing, rules)
-
-pub returns-in-Written : goal.returns-in-Written
-returns-in-Written c = search (f0_written, rules)
-
-pub returns-in-Refused : goal.returns-in-Refused
-returns-in-Refused c = search (f0_refused, rules)
+pub returns-in-len1-up : goal.returns-in-len1-up
+returns-in-len1-up c = f0_written _ _ _ _ c.pccc_error_text.ensures (cc) c.in-len1-up.len_at_least c.lay_hex.ensures

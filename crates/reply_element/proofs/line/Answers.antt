@@ -1,9 +1,6 @@
-use Rattle.reply_element.proofs.Elements.{no_text_room, pairs_fit, text_within, text_counts, line_read}
+use Rattle.reply_element.proofs.Elements.{pairs_fit, text_within, text_counts, line_read}
 use borrow.Author.Rules.{rules}
 use Rattle.reply_element.proofs.line.Goals as goal
-
-pub returns-then-out-lt82 : goal.returns-then-out-lt82
-returns-then-out-lt82 c = search (no_text_room, rules)
 
 pub swap_into-there-requires : goal.swap_into-there-requires
 swap_into-there-requires c = search (pairs_fit, rules)

@@ -1,18 +1,8 @@
-use Rattle.request.proofs.RequestSent.{no_address_lem, on_address_lem, read_3, read_5, read_6, read_built}
+use Rattle.request.proofs.RequestSent.{read_built}
 use borrow.Author.Rules.{rules}
 use Rattle.request.proofs.read_request.Goals as goal
 
-pub returns-then-bit_and_count : goal.returns-then-bit_and_count
-returns-then-bit_and_count c = search (on_address_lem, read_3, rules)
-
-pub returns-in_default : goal.returns-in_default
-returns-in_default c = search (on_address_lem, read_5, rules)
-
-pub returns-then-out-lt27 : goal.returns-then-out-lt27
-returns-then-out-lt27 c = search (on_address_lem, read_6, rules)
-
-pub returns-in-Refused : goal.returns-in-Refused
-returns-in-Refused c = search (no_address_lem, rules)
-
-pub returns-else-out-lt27 : goal.returns-else-out-lt27
-returns-else-out-lt27 c = search (on_address_lem, read_built, rules)
+pub returns : goal.returns
+returns c =
+    read_built _ _ c.in_ok-x.x c.parse_tag.ensures (search rules) c.bit_and_count.ensures (search rules) _ _ c.read_size.ensures c.ok_or.ensures.value c.in_ok-size.size (search rules) (search rules) c.unwrap_or.ensures c.place-p.ensures
+    (search rules) (search rules)

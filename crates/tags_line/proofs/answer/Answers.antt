@@ -8,8 +8,8 @@ slice_bounds-message-end c = search (message_fits, rules)
 pub slice_bounds-put_message-end : goal.slice_bounds-put_message-end
 slice_bounds-put_message-end c = search (message_counts, rules)
 
-pub returns-in-Refused : goal.returns-in-Refused
-returns-in-Refused c = search (answer_refused, rules)
+pub returns-in-Err : goal.returns-in-Err
+returns-in-Err c = search (answer_refused, rules)
 
-pub returns-in-Built : goal.returns-in-Built
-returns-in-Built c = search (answer_message, rules)
+pub returns-in-Ok : goal.returns-in-Ok
+returns-in-Ok c = search (answer_message, rules)

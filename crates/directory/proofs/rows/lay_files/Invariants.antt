@@ -1,12 +1,12 @@
-use Prim.Native.Nat.{◌+◌, ◌-◌, ◌≤◌}
+use Prim.Native.Nat.{◌+◌, ◌≤◌}
 use mathlib.Core.Path.{◌≡◌}
 use lib.ListN.{length}
 use Rattle.directory.specs.Passes.{lay}
 use Rattle.directory.specs.Rows.{rows, files_from}
 use Rattle.directory.proofs.rows.lay_files.Given as goal
 
-abbrev pub invariant-loop-p : goal.invariant-loop-p
-invariant-loop-p l = (length l.out ≡ length l.initial.out) × (lay l.out l.p.at (files_from l.p.number (rows l.place l.size l.bytes)) ≡ lay l.initial.out 0 (files_from 0 (rows l.first l.size l.bytes))) × (l.p.at + length (files_from l.p.number (rows l.place l.size l.bytes)) ≡ l.n) × (l.p.number ≤ l.place + 1)
+abbrev pub invariant-loop-rest : goal.invariant-loop-rest
+invariant-loop-rest l = (length l.rest ≤ 65535) × (l.p.number + length l.rest ≤ 65536) × (l.p.at + length (files_from l.p.number (rows 0 l.size l.rest)) ≤ length l.out) × (lay l.out l.p.at (files_from l.p.number (rows 0 l.size l.rest)) ≡ lay l.initial.out 0 (files_from 0 (rows l.first l.size l.bytes)))
 
-abbrev pub decreases-loop-p : goal.decreases-loop-p
-decreases-loop-p l = length l.bytes - l.place
+abbrev pub decreases-loop-rest : goal.decreases-loop-rest
+decreases-loop-rest l = length l.rest

@@ -1,6 +1,5 @@
-use Rattle.element_encode.proofs.EncodeAnswers.{on_float_lem}
-use borrow.Author.Rules.{rules}
+use Rattle.element_encode.proofs.EncodeAnswers.{float_stored}
 use Rattle.element_encode.proofs.set.float.Goals as goal
 
-pub returns-in-Float : goal.returns-in-Float
-returns-in-Float c = search (on_float_lem, rules)
+pub returns : goal.returns
+returns c = float_stored c.args.bits (rw c.from.ensures at c.put_number.ensures) c.requires

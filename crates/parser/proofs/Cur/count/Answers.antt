@@ -7,14 +7,14 @@ pub returns-in_default : goal.returns-in_default
 unfolding count_of
 returns-in_default c = search (answering, rules)
 
-pub returns-in_default-count_number : goal.returns-in_default-count_number
+pub returns-in_err-n : goal.returns-in_err-n
 unfolding count_of
-returns-in_default-count_number c = search (answering, rules)
+returns-in_err-n c = search (answering, c.in_err-n.was, rules)
 
-pub returns-in_default-eat : goal.returns-in_default-eat
+pub returns-in_err-e : goal.returns-in_err-e
 unfolding count_of
-returns-in_default-eat c = search (answering, rules)
+returns-in_err-e c = search (answering, c.in_ok-n.was, c.in_err-e.was, rules)
 
 pub returns : goal.returns
 unfolding count_of
-returns c = search (answering, rules)
+returns c = search (answering, c.in_ok-n.was, c.in_ok-e.was, rules)

@@ -5,5 +5,5 @@ use Rattle.reply_element.proofs.bit.get_bit.Goals as goal
 pub returns-then-p : goal.returns-then-p
 returns-then-p c = search (bit_negative, rules)
 
-pub returns : goal.returns
-returns c = search (bit_positive, rules)
+pub returns-else-p : goal.returns-else-p
+returns-else-p c = search (bit_positive, rules)

@@ -1,4 +1,5 @@
-use Rattle.file_type.specs.declared.Known.{Known}
+use Rattle.std.specs.Prelude.{Option}
+use Rattle.file_type.specs.declared.FileType.{FileType}
 use Prim.Native.Nat.{ℕ}
 use mathlib.Core.List.{List}
 use Rattle.link_types.specs.Types.{field_record, field_in}
@@ -7,4 +8,4 @@ use borrow.Author.Rules.{rules}
 use Rattle.slc_link.proofs.file_types.slc_field_of.Goals as goal
 
 pub returns : goal.returns
-returns c = search (beside (λ (s : List ℕ) (k : Known). field_record (field_in k s)), rules)
+returns c = search (beside (λ (s : List ℕ) (k : Option FileType). field_record (field_in k s)), rules)

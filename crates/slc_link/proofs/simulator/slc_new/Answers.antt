@@ -1,4 +1,4 @@
-use Rattle.slc_link.proofs.Calling.{raises}
+use Rattle.link_processor.proofs.Telling.{raises}
 use borrow.Author.Rules.{rules}
 use Rattle.slc_link.proofs.simulator.slc_new.Goals as goal
 

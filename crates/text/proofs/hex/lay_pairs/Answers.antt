@@ -1,12 +1,11 @@
+use mathlib.Core.Path.{refl}
+use native.Mathlib.Omega.{arith}
 use borrow.Author.Rules.{rules}
-use Rattle.text.proofs.Pairs.{one_kept, digit_there, digit_here, digits_two, pairs_turn, pairs_done}
+use Rattle.text.proofs.Pairs.{one_kept, pairs_turn, pairs_done}
 use Rattle.text.proofs.hex.lay_pairs.Goals as goal
 
-pub pair-requires : goal.pair-requires
-pair-requires c = search (digit_here, digit_there, rules)
-
 pub loop-i-preserved : goal.loop-i-preserved
-loop-i-preserved c = search (one_kept, digits_two, pairs_turn, rules)
+loop-i-preserved c = search (one_kept, pairs_turn, rules)
 
 pub returns : goal.returns
-returns c = search (pairs_done, rules)
+returns c = pairs_done _ _ _ c.loop-i.i c.requires.0 c.loop-i.invariant.1 _ (omega arith) refl

@@ -7,8 +7,5 @@ use Rattle.text.proofs.hex.put_hex.Goals as goal
 pub returns-then-out-at : goal.returns-then-out-at
 returns-then-out-at c = puts_full _ (hex_length _) (omega arith)
 
-pub returns-then-out-at-2 : goal.returns-then-out-at-2
-returns-then-out-at-2 c = puts_full _ (hex_length _) (omega arith)
-
 pub returns : goal.returns
 returns c = puts_room _ (hex_length _) (omega arith) (search rules)
