@@ -31,8 +31,8 @@ module _ (slc : Slc) (t : List FileRecord) (m l c p : List ℕ) where
         ∙ ap (λ (z : Query). branch (directory_wanted z.wants) z (survey_of t slc.files z.number)) eq
         ∙ right directory_of directory_fills slc t m l c p
 
-    pub shows : (y : Layout) (d : List ℕ) → d ≡ directory_of t slc.files y s → o ≡ Some y → x ≡ show_of slc s q y d m l c p → x ≡ pccc_of slc t m l c p
-    shows y d ed f e = e ∙ ap (λ (z : List ℕ). show_of slc s q y z m l c p) ed ∙ sym (ap (λ (w : Option Layout). branch w q s) f) ∙ branched
+    pub shows : (y : Layout) → o ≡ Some y → x ≡ show_of slc s q y (directory_of t slc.files y s) m l c p → x ≡ pccc_of slc t m l c p
+    shows y f e = e ∙ sym (ap (λ (w : Option Layout). branch w q s) f) ∙ branched
 
     pub answers : o ≡ None → x ≡ respond_of slc s q m l c p → x ≡ pccc_of slc t m l c p
     answers f e = e ∙ sym (ap (λ (w : Option Layout). branch w q s) f) ∙ branched
