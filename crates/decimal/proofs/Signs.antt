@@ -69,23 +69,23 @@ module _ (z : ℤ) (f : SFits w64 z) where
 
 -- ---- the number of a text
 -- a number from 2 ^ 64 on is none with a sign either
+module _ (sign : Option ℕ → Option ℤ) (none : sign None ≡ None) (large : (n : ℕ) → 18446744073709551616 ≤ n → sign (Some n) ≡ None) where
+  signed_read : (o : Option ℕ) → sign o ≡ option_and_then (λ m. sign (Some m)) (unsigned_of o)
+  unfolding unsigned_of
+  signed_read None = none
+  signed_read (Some n) = go (ltb n 18446744073709551616) refl
+    where
+      go : (t : Bool) → ltb n 18446744073709551616 ≡ t → sign (Some n) ≡ option_and_then (λ m. sign (Some m)) (cond t (Some n) None)
+      go true e = refl
+      go false e = large n (ltb-false n _ e)
+
 minus_read : (o : Option ℕ) → minus o ≡ option_and_then (λ m. minus (Some m)) (unsigned_of o)
-unfolding minus unsigned_of
-minus_read None = refl
-minus_read (Some n) = go (ltb n 18446744073709551616) refl
-  where
-    go : (t : Bool) → ltb n 18446744073709551616 ≡ t → minus (Some n) ≡ option_and_then (λ m. minus (Some m)) (cond t (Some n) None)
-    go true e = refl
-    go false e = rw (lt-leb n 9223372036854775808 (omega (arith, ltb-false n _ e)))
+unfolding minus
+minus_read = signed_read minus refl (λ n h. rw (lt-leb n 9223372036854775808 (omega arith)))
 
 plus_read : (o : Option ℕ) → plus o ≡ option_and_then (λ m. plus (Some m)) (unsigned_of o)
-unfolding plus unsigned_of
-plus_read None = refl
-plus_read (Some n) = go (ltb n 18446744073709551616) refl
-  where
-    go : (t : Bool) → ltb n 18446744073709551616 ≡ t → plus (Some n) ≡ option_and_then (λ m. plus (Some m)) (cond t (Some n) None)
-    go true e = refl
-    go false e = rw (le-ltb n 9223372036854775808 (omega (arith, ltb-false n _ e)))
+unfolding plus
+plus_read = signed_read plus refl (λ n h. rw (le-ltb n 9223372036854775808 (omega arith)))
 
 pub signed_empty : (s : List ℕ) → length s ≡ 0 → None ≡ signed_of s
 unfolding signed_of
