@@ -1,13 +1,13 @@
 -- Laws of the text of A and ST.
-use Prim.Native.Nat.{ℕ, ◌+◌, ◌-◌, ◌%◌, ◌≤◌, ◌<◌, min}
-use mathlib.Core.Path.{◌≡◌, refl, ap, sym, ◌∙◌}
-use mathlib.Core.List.{List, [], ◌++◌, append_assoc, append-nil}
+use Prim.Native.Nat.{ℕ, suc, ◌+◌, ◌-◌, ◌%◌, ◌≤◌, ◌<◌, min}
+use mathlib.Core.Path.{◌≡◌, refl, ap, ap₂, sym, ◌∙◌}
+use mathlib.Core.List.{List, [], ◌∷◌, ◌++◌, append_assoc, append-nil}
 use mathlib.Core.Bool.{Bool, true, false}
 use native.Mathlib.Nat.{zero-add}
 use native.Mathlib.Omega.{arith}
 use borrow.Author.Tests.{lt-ltb, le-ltb, leb-true, leb-false}
 use lib.Dec.{leb, ltb}
-use lib.ListN.{length, take, drop, replicate, length-append, length-take, length-replicate, drop_of_length-le}
+use lib.ListN.{length, take, drop, get_or, replicate, length-append, length-take, length-replicate, drop_of_length-le}
 use lib.Seq.{length-take-le, take_all, take_at, drop_at}
 use Rattle.base.specs.Numbers.{low_first}
 use Rattle.base.specs.Put.{put, Puts}
@@ -18,6 +18,15 @@ use Rattle.std.specs.Prelude.{Ok, Err}
 use Rattle.base.specs.declared.refusal.Refusal.TheVariants.{ShortOutput}
 use Rattle.element_text.specs.Text.{swap_pairs, padded_swap, fitted, ascii_text, string_text, written_of, out_of}
 use Rattle.element_text.proofs.Swap.{swap_length}
+
+-- the bytes of an A text, one by one
+pub ascii_is : (s : List ℕ) (a b : ℕ) → a ≡ get_or s 1 32 → b ≡ get_or s 0 32 → (a ∷ b ∷ []) ≡ ascii_text s
+unfolding ascii_text swap_pairs fitted
+ascii_is [] a b e f = ap₂ (λ (x y : ℕ). x ∷ y ∷ []) e f
+ascii_is (x ∷ []) a b e f = ap₂ (λ (x y : ℕ). x ∷ y ∷ []) e f
+ascii_is (x ∷ y ∷ s) a b e f =
+    let n : 2 - suc (suc (length s)) ≡ 0 = omega arith in
+    rw n (ap₂ (λ (x y : ℕ). x ∷ y ∷ []) e f)
 
 -- ---- lengths
 fitted_length : (n fill : ℕ) (s : List ℕ) → length (fitted n fill s) ≡ n

@@ -1,10 +1,11 @@
 -- Laws of the table of file types.
-use Rattle.std.proofs.Common.{ℕ, ◌≡◌, ◌≤◌, ◌<◌, refl, ap, ◌∙◌, Bool, true, false, cond, List, [], ◌∷◌, Option, Some, find}
+use Rattle.std.proofs.Common.{ℕ, ◌≡◌, ◌≤◌, ◌<◌, refl, ap, sym, ◌∙◌, Bool, true, false, cond, List, [], ◌∷◌, Option, None, Some, find}
 use Rattle.std.specs.List.{list_all}
-use borrow.Author.Tests.{ltb-true, leb-true}
+use borrow.Author.Tests.{ltb-true, leb-true, ne_eqb}
 use Rattle.std.proofs.lemmas.Bool.{and_parts}
 use lib.Dec.{eqb, ltb, leb}
 use Rattle.base.specs.Chars.{spelled}
+use Rattle.base.proofs.Unmatched.{NoneOf, Unlike, unlike}
 use Rattle.file_type.specs.declared.FileType.{FileType}
 use Rattle.file_type.specs.declared.FileType.TheVariants.{O, I, S, B, T, C, R, N, F, ST, A, L, MG, PD, PLS}
 use Rattle.file_type.specs.Table.{row, all, of_code, of_name}
@@ -27,6 +28,18 @@ own_code L = refl
 own_code MG = refl
 own_code PD = refl
 own_code PLS = refl
+
+abbrev code_of : FileType → ℕ
+code_of t = (row t).code
+
+-- a code that is none of theirs
+none_passes : (ts : List FileType) (c : ℕ) → Unlike code_of ts c → None ≡ find (λ (t : FileType). eqb (row t).code c) ts
+none_passes [] c h = refl
+none_passes (t ∷ ts) c h = rw (ne_eqb (row t).code c (λ (e : (row t).code ≡ c). h.0 (sym e))) (none_passes ts c h.1)
+
+pub no_code : (c : ℕ) → NoneOf code_of (Unit {0}) all c → None ≡ of_code c
+unfolding of_code
+no_code c h = none_passes all c (unlike code_of all c h)
 
 -- the first type of that name
 pub named_first : (s : List ℕ) {o : Option FileType} → o ≡ find (λ (t : FileType). spelled false (row t).name s) all → o ≡ of_name s

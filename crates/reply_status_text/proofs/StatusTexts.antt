@@ -6,13 +6,14 @@ use mathlib.Core.Bool.{Bool, true, false, cond, ◌&&◌}
 use mathlib.Core.List.{List, [], ◌∷◌}
 use native.Mathlib.Nat.{zero-add}
 use native.Mathlib.Omega.{arith}
-use borrow.Author.Tests.{lt-ltb, le-ltb}
+use borrow.Author.Tests.{lt-ltb, le-ltb, ne_eqb}
 use mir.Facts.{and_yes}
 use lib.Dec.{T, eqb, ltb, leb, leb→le}
 use lib.ListN.{length, take, length-take}
 use lib.Seq.{take_all}
 use Rattle.std.proofs.lemmas.List.{take_min}
 use Rattle.base.proofs.Put.{puts_wrote}
+use Rattle.base.proofs.Unmatched.{NoneOf, Unlike, unlike}
 use Rattle.base.specs.Put.{Wrote, Puts}
 use Rattle.base.specs.declared.refusal.Refusal.{Refusal}
 use Rattle.base.specs.declared.refusal.Refusal.TheVariants.{ShortOutput}
@@ -59,3 +60,15 @@ module _ (rows : List (ℕ × List ℕ)) (h : T (short rows)) (c : ℕ) {l m : L
 pub code_told : {l m : List ℕ} {r : Result (Option ℕ) Refusal} (c : ℕ) (t : List ℕ) → Some t ≡ text_of c → Tells (Some (take 96 t)) l r m → Tells (text_of c) l r m
 unfolding text_of
 code_told c t e w = row_told texts tt c t e w
+
+-- ---- a status that is none of the codes has no text
+abbrev code_of : ℕ × List ℕ → ℕ
+code_of row = row.0
+
+none_passes : (rows : List (ℕ × List ℕ)) (c : ℕ) → Unlike code_of rows c → text_in rows c ≡ None
+none_passes [] c h = refl
+none_passes (row ∷ rows) c h = rw (ne_eqb row.0 c (λ (e : row.0 ≡ c). h.0 (sym e))) (none_passes rows c h.1)
+
+pub no_text : (l : List ℕ) (c : ℕ) → NoneOf code_of (Unit {0}) texts c → Tells (text_of c) l (Ok None) l
+unfolding text_of
+no_text l c h = rw (none_passes texts c (unlike code_of texts c h)) (record { answer = refl; memory = refl })
