@@ -101,20 +101,29 @@ module _ (size : ℕ) (h : 0 < size) where
     pub lay_init : (l : List (List ℕ)) → lay l 0 (files_from 0 (rows 0 size rest)) ≡ lay l 0 (files_from 0 (rows first size s))
     lay_init l = ap (λ (rs : List Row). lay l 0 (files_from 0 rs)) whole_rows
 
-    pub room_init : (n : ℕ) → length (files_from 0 (rows first size s)) ≤ n → 0 + length (files_from 0 (rows 0 size rest)) ≤ n
-    room_init n g = omega (arith, ap (λ (rs : List Row). length (files_from 0 rs)) whole_rows)
+    pub files_init : (n : ℕ) → n ≡ length (files_from 0 (rows first size s)) → 0 + length (files_from 0 (rows 0 size rest)) ≡ n
+    files_init n g = omega (arith, ap (λ (rs : List Row). length (files_from 0 rs)) whole_rows)
 
-  module _ (s : List ℕ) (l whole : List (List ℕ)) (p : Turn) (left : lay l p.at (files_from p.number (rows 0 size s)) ≡ whole) (files : p.at + length (files_from p.number (rows 0 size s)) ≤ length l) where
-    pub lay_done : length s < 1 → l ≡ whole
+  module _ (s : List ℕ) (l whole : List (List ℕ)) (n : ℕ) (p : Turn) (left : lay l p.at (files_from p.number (rows 0 size s)) ≡ whole) (files : p.at + length (files_from p.number (rows 0 size s)) ≡ n) where
+    -- no row is left
+    pub lay_ended : length s < 1 → l ≡ whole
     unfolding files_from
-    lay_done g = sym (lay_none l p.at) ∙ ap (λ (rs : List Row). lay l p.at (files_from p.number rs)) (sym (rows_end size h s g)) ∙ left
+    lay_ended g = sym (lay_none l p.at) ∙ ap (λ (rs : List Row). lay l p.at (files_from p.number rs)) (sym (rows_end size h s g)) ∙ left
+
+    -- no file is left
+    pub lay_done : n ≤ p.at → l ≡ whole
+    lay_done g = sym (lay_none l p.at) ∙ ap (lay l p.at) (sym (none (files_from p.number (rows 0 size s)) (omega arith))) ∙ left
+      where
+        none : (fs : List (List ℕ)) → length fs ≤ 0 → fs ≡ []
+        none [] k = refl
+        none (f ∷ fs) k = absurd (omega arith)
 
     module _ (r : Row) (g : 1 ≤ length s) (er : r ≡ row_of (of_code (get_or s 0 0)) (get_or s 0 0) (drop 1 s)) where
       here : r ∷ rows 0 size (drop size s) ≡ rows 0 size s
       here = ap (λ (x : Row). x ∷ rows 0 size (drop size s)) er ∙ sym (rows_next size h s g)
 
-      pub row_within : p.at + length (files_from p.number (r ∷ [])) ≤ length l
-      row_within = omega (arith, fewer p.number r (rows 0 size (drop size s)), ap (λ (rs : List Row). length (files_from p.number rs)) here)
+      pub row_within : n ≤ length l → p.at + length (files_from p.number (r ∷ [])) ≤ length l
+      row_within k = omega (arith, fewer p.number r (rows 0 size (drop size s)), ap (λ (rs : List Row). length (files_from p.number rs)) here)
 
       module _ (q : Turn) (m : List (List ℕ)) (w : Turned l p r q m) (rest : List ℕ) (f : rest ≡ drop size s) where
         there : r ∷ rows 0 size rest ≡ rows 0 size s
@@ -123,14 +132,20 @@ module _ (size : ℕ) (h : 0 < size) where
         pub left_turn : lay m q.at (files_from q.number (rows 0 size rest)) ≡ whole
         left_turn = w.left (rows 0 size rest) ∙ ap (λ (rs : List Row). lay l p.at (files_from p.number rs)) there ∙ left
 
-        pub files_turn : q.at + length (files_from q.number (rows 0 size rest)) ≤ length m
-        files_turn = omega (arith, w.kept, w.files (rows 0 size rest), ap (λ (rs : List Row). length (files_from p.number rs)) there)
+        pub files_turn : q.at + length (files_from q.number (rows 0 size rest)) ≡ n
+        files_turn = omega (arith, w.files (rows 0 size rest), ap (λ (rs : List Row). length (files_from p.number rs)) there)
+
+        pub room_turn : n ≤ length l → n ≤ length m
+        room_turn k = omega (arith, w.kept)
 
         shorter : length rest + 1 ≤ length s
         shorter =
             let i : length rest ≡ length (drop size s) = ap length f in
             let j : length (drop size s) + 1 ≤ length s = simp length-drop (omega arith) in
             omega arith
+
+        pub rest_fewer : length rest < length s
+        rest_fewer = omega (arith, shorter)
 
         pub short_turn : length s ≤ 65535 → length rest ≤ 65535
         short_turn k = omega (arith, shorter)

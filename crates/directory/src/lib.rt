@@ -27,6 +27,6 @@ pub fn parse_file_directory(
     if out.len() < n {
         return Err(Refusal::MoreFilesThanRoom);
     }
-    rows::lay_files(file_position, row_size, bytes, out);
+    rows::lay_files(file_position, row_size, bytes, n, out);
     Ok(n)
 }

@@ -81,14 +81,15 @@ fn lay_row(out: &mut [[u32; 4]], p: Turn, row: Row) -> Turn
     }
 }
 
-// The files from the start of the output on.
-pub fn lay_files(first: usize, size: usize, bytes: &[u8], out: &mut [[u32; 4]])
-    requires { (length bytes.now ≤ 65535) × (0 < size) × (length (files_from 0 (rows first size bytes.now)) ≤ length out.old) }
+// The first n files, which are all, from the start of the output on. Rows behind the last file aren't read again.
+pub fn lay_files(first: usize, size: usize, bytes: &[u8], n: usize, out: &mut [[u32; 4]])
+    requires { (length bytes.now ≤ 65535) × (0 < size) × (n ≡ length (files_from 0 (rows first size bytes.now))) × (n ≤ length out.old) }
     ensures { out.new ≡ lay out.old 0 (files_from 0 (rows first size bytes.now)) }
 {
     let mut rest = from(bytes, first);
     let mut p = Turn { at: 0, number: 0 };
-    while let [code, ..] = rest {
+    while p.at < n {
+        let [code, ..] = rest else { return };
         p = lay_row(out, p, first_row(*code, rest));
         rest = from(rest, size);
     }

@@ -17,7 +17,7 @@ returns-then-out-n c = no_room _ _ _ c.if-bytes-gt65535.false c.if-row_size-eq0.
 pub lay_files-requires : goal.lay_files-requires
 lay_files-requires c =
     let e = found _ _ _ c.if-bytes-gt65535.false c.if-row_size-eq0.false _ c.count_files.ensures _ c.ok_or.ensures.value _ c.in_ok-n.was in
-    (search rules, search rules, search rules)
+    (search rules, search rules, e, search rules)
 
 pub returns : goal.returns
 returns c = all_laid _ _ _ c.if-bytes-gt65535.false c.if-row_size-eq0.false _ c.count_files.ensures _ c.ok_or.ensures.value _ c.in_ok-n.was _ _ c.if-out-n.false c.lay_files.ensures
