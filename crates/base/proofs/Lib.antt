@@ -5,3 +5,4 @@ pub mod Parts
 pub mod Put
 pub mod EveryPlace
 pub mod Unmatched
+pub mod RefusalNumbers

@@ -2,7 +2,7 @@
 use Rattle.std.specs.Prelude.{ℕ, true, List, [], ◌∷◌, take, drop, replicate, Result, Ok, Err}
 use Prim.Native.String.{String}
 use Rattle.base.specs.declared.refusal.Refusal.{Refusal}
-use Rattle.base.specs.declared.refusal.Refusal.TheVariants.{NotAnAddress, BitWithCount, SizeOutOfRange}
+use Rattle.base.specs.Refusals.{number_of}
 use Rattle.base.specs.Chars.{bytes}
 use Rattle.file_type.specs.Table.{row}
 use Rattle.address_spec.specs.declared.Address.{Address}
@@ -15,13 +15,13 @@ use Rattle.request_spec.specs.Request.{Asked, refused, sends, reading, writing}
 use Rattle.processor_spec.specs.Masked.{masked}
 use Rattle.processor_spec.specs.Worked.{built, told, call}
 
--- bytes, numbers, or a refusal
+-- bytes, numbers, or the number of a refusal
 abbrev pub Given : Type 0
-Given = Result (List ℕ) Refusal
+Given = Result (List ℕ) ℕ
 
 -- the message from a byte on, and so many bytes of it
 abbrev sent : ℕ → ℕ → Asked → Given
-sent from n (refused e) = Err e
+sent from n (refused e) = Err (number_of e)
 sent from n (sends x bs) = Ok (take n (drop from bs))
 
 -- "sequence 0x1234"
@@ -33,7 +33,7 @@ writes from n tag v text = sent from n (writing (bytes tag) Stored v (bytes text
 
 -- type code, file, element, sub-element
 abbrev parsed_as : Result Address Refusal → Given
-parsed_as (Err e) = Err e
+parsed_as (Err e) = Err (number_of e)
 parsed_as (Ok x) = Ok ((row x.file_type).code ∷ x.file_number ∷ x.element_number ∷ or_zero x.sub_element ∷ [])
 
 -- "W9 bytes 11 22 33, mask word 0x0FF0, value AA BB CC"
@@ -67,9 +67,9 @@ worked =
     ∷ row_of "W4 B3/4095, from file on" (reads 19 27 "B3/4095") (Ok (0x03 ∷ 0x85 ∷ 0xFF ∷ 0xFF ∷ 0x00 ∷ 0x00 ∷ []))
     ∷ row_of "W5 N7:0{0}: size 0" (reads 18 1 "N7:0{0}") (Ok (0 ∷ []))
     ∷ row_of "W5 N7:0{127}: size 254" (reads 18 1 "N7:0{127}") (Ok (254 ∷ []))
-    ∷ row_of "W5 N7:0{128}" (reads 0 27 "N7:0{128}") (Err SizeOutOfRange)
-    ∷ row_of "W6 ST9:0{3}" (reads 0 27 "ST9:0{3}") (Err NotAnAddress)
-    ∷ row_of "W6 N7:0/3{2}" (reads 0 27 "N7:0/3{2}") (Err BitWithCount)
+    ∷ row_of "W5 N7:0{128}" (reads 0 27 "N7:0{128}") (Err 5)
+    ∷ row_of "W6 ST9:0{3}" (reads 0 27 "ST9:0{3}") (Err 2)
+    ∷ row_of "W6 N7:0/3{2}" (reads 0 27 "N7:0/3{2}") (Err 3)
     ∷ row_of "W7 N7:0/3 true, mask and data" (writes 23 284 "N7:0/3" (value.Bool true) "") (Ok (0x08 ∷ 0x00 ∷ 0x08 ∷ 0x00 ∷ []))
     ∷ row_of "W8 abc on ST9:0: data starts" (writes 25 6 "ST9:0" value.Text "abc") (Ok (0x03 ∷ 0x00 ∷ 0x62 ∷ 0x61 ∷ 0x00 ∷ 0x63 ∷ []))
     ∷ row_of "W9 bytes 11 22 33, mask word 0x0FF0, value AA BB CC" (Ok w9) (Ok (0xA1 ∷ 0x2B ∷ 0xC3 ∷ []))
