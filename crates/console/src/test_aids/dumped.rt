@@ -28,7 +28,8 @@ fn file(r: FileRecord, image: &[u8]) -> &[u8] {
 // The entries that are left, each a length word and its bytes.
 fn entries(plc: &Plc, text: &mut Text<'_>) -> fmt::Result {
     let left = plc.slc.log_left;
-    write!(text, " log {left}")?;
+    write!(text, " log")?;
+    write!(text, " {left}")?;
     let mut rest = &plc.log[plc.slc.log_at.min(plc.log.len())..];
     for _ in 0..left.min(64) {
         let n = usize::from(base::word_at(rest, 0));
