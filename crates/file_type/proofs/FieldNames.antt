@@ -1,10 +1,12 @@
 -- Laws of the names of words and bits in T, C and R.
 use Rattle.std.proofs.Common.{◌-◌, subst, ℕ, ◌≡◌, ◌≤◌, ◌<◌, refl, Bool, true, false, cond, List, [], length, arith, Option, None, Some}
 use Rattle.std.specs.Option.{option_map}
-use borrow.Author.Tests.{leb-true, ltb-true}
-use lib.Dec.{leb, ltb}
+use borrow.Author.Tests.{eqb-true, leb-true, ltb-true}
+use lib.Dec.{eqb, leb, ltb}
+use lib.ListN.{get_or}
 use Rattle.std.proofs.lemmas.List.Quantifiers.{position-Some}
 use Rattle.base.specs.Chars.{spelled}
+use Rattle.base.proofs.EveryPlace.{every_below, at_place}
 use Rattle.file_type.specs.declared.Field.{Field}
 use Rattle.file_type.specs.declared.Field.TheVariants as field
 use Rattle.file_type.specs.declared.FileType.{FileType}
@@ -14,6 +16,20 @@ use Rattle.file_type.proofs.FileTypes.{each}
 
 pub most : (t : FileType) → length (field_names t) ≤ 10
 most t = leb-true (length (field_names t)) 10 (each (λ (t : FileType). leb (length (field_names t)) 10) refl t)
+
+-- words have three letters, bits two
+abbrev pub letters_at : ℕ → ℕ
+letters_at i = cond (ltb i 2) 3 2
+
+abbrev pub Letters : FileType → Type 0
+Letters t = (i : ℕ) → i < length (field_names t) → length (get_or (field_names t) i []) ≡ letters_at i
+
+abbrev lettered : FileType → ℕ → Bool
+lettered t i = eqb (length (get_or (field_names t) i [])) (letters_at i)
+
+pub letters : (t : FileType) → Letters t
+letters t i h =
+    eqb-true (length (get_or (field_names t) i [])) (letters_at i) (at_place (lettered t) (length (field_names t)) (each (λ (t : FileType). every_below (lettered t) (length (field_names t))) refl t) i h)
 
 pub bits_most : (t : FileType) → length (bit_names t) ≤ 8
 bits_most t = leb-true (length (bit_names t)) 8 (each (λ (t : FileType). leb (length (bit_names t)) 8) refl t)

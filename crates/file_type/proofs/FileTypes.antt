@@ -29,6 +29,25 @@ own_code MG = refl
 own_code PD = refl
 own_code PLS = refl
 
+-- and so is its name
+pub own_name : (t : FileType) → Some t ≡ of_name (row t).name
+unfolding of_name spelled
+own_name O = refl
+own_name I = refl
+own_name S = refl
+own_name B = refl
+own_name T = refl
+own_name C = refl
+own_name R = refl
+own_name N = refl
+own_name F = refl
+own_name ST = refl
+own_name A = refl
+own_name L = refl
+own_name MG = refl
+own_name PD = refl
+own_name PLS = refl
+
 abbrev code_of : FileType → ℕ
 code_of t = (row t).code
 

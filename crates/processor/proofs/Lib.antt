@@ -1,2 +1,3 @@
 pub mod DirectoryFills
 pub mod Choosing
+pub mod ByQuery

@@ -1,5 +1,5 @@
--- The texts of the questions by their numbers (docs/QUESTIONS.md; document 01, "Refusals", and the requests of document 02). A new question is a row here and a line of the
--- code's text. Rows ascend; a number that isn't there has no question.
+-- The texts of the questions by their numbers (docs/QUESTIONS.md; document 01, "Refusals", and the requests of document 02). A new question is a row here and the
+-- arm of its number in the code. Rows ascend; a number that isn't there has no question.
 use Rattle.std.specs.Prelude.{ℕ, List, [], ◌∷◌, Option}
 use Rattle.base.specs.Chars.{bytes}
 use Rattle.reply_status_text.specs.Texts.{text_in}

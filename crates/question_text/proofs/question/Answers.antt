@@ -1,7 +1,5 @@
 use Rattle.std.specs.Prelude.{Some}
-use Prim.Native.Nat.{ℕ}
 use mathlib.Core.Path.{◌≡◌, ap, ◌∙◌}
-use mathlib.Core.List.{List}
 use Rattle.question_text.specs.Questions.{question_of}
 use Rattle.question_text.proofs.QuestionTexts.{question_told}
 use Rattle.question_text.proofs.question.Goals as goal
