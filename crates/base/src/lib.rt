@@ -19,9 +19,11 @@ pub fn put_all(out: &mut [u8], at: usize, bytes: &[u8]) -> usize
     if out.len() < at || out.len() - at < bytes.len() {
         return at;
     }
-    let end = at + bytes.len();
-    out[at..end].copy_from_slice(bytes);
-    end
+    // by bytes: `copy_from_slice` would have the archive for C ask for `memmove`
+    for i in 0..bytes.len() {
+        out[at + i] = bytes[i];
+    }
+    at + bytes.len()
 }
 
 fn lay_number(out: &mut [u8], at: usize, k: usize, n: u64) -> usize
