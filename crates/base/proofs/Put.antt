@@ -1,9 +1,8 @@
 -- Laws of bytes laid over a memory.
-use Prim.Native.Nat.{ℕ, ◌+◌, ◌-◌, ◌≤◌, ◌<◌}
+use Prim.Native.Nat.{ℕ, ◌+◌, ◌≤◌, ◌<◌}
 use mathlib.Core.Path.{◌≡◌, ap, ap₂, sym, ◌∙◌}
 use mathlib.Core.List.{List, [], ◌∷◌, ◌++◌, append_assoc, append-nil}
-use native.Mathlib.Nat.{add-zero, add_assoc, zero-add, add-sub_cancel_left}
-use borrow.Rule.Slice.PartMut.{put_mid}
+use native.Mathlib.Nat.{add-zero, add_assoc, zero-add}
 use native.Mathlib.Numerals.{add-one}
 use native.Mathlib.Omega.{arith}
 use borrow.Author.Tests.{le-leb, lt-leb}
@@ -150,8 +149,3 @@ then {l} {m} {k} {at} {r} {t} {bs} {cs} a b = record { room = laid }
         let e : length m ≡ length l = wrote_length w (omega arith) in
         let i : r ≡ at + length bs = w.end in
         and_then w (b.room (omega arith)) (omega arith)
-
--- a part that was copied over
-pub copied : (l : List ℕ) (at : ℕ) (bs : List ℕ) {xs : List ℕ} → at + length bs ≤ length l → xs ≡ bs → put_mid at (at + length bs - at) l xs ≡ put l at bs
-unfolding put
-copied l at bs h e = rw (e, add-sub_cancel_left) (ap (λ (z : List ℕ). take at l ++ (bs ++ z)) (drop-drop (length bs) at l))
