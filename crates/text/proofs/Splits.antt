@@ -1,6 +1,4 @@
 -- Laws of the parts of a text.
-use Rattle.std.specs.Prelude.{◌==◌, count_by}
-use Rattle.std.proofs.lemmas.List.Sums.{sum_by-cons}
 use Prim.Native.Nat.{ℕ, zero, suc, ◌+◌, ◌-◌, ◌≤◌, ◌<◌, min}
 use mathlib.Core.Path.{◌≡◌, refl, ap, sym, ◌∙◌}
 use mathlib.Core.List.{List, [], ◌∷◌}
@@ -116,10 +114,17 @@ module _ (by : ℕ) where
       go true = omega arith
       go false = omega (arith, before_length b (cut by s) (some_part s))
 
-  pub parts_are : (s : List ℕ) → length (cut by s) ≡ 1 + count_by (λ b. b == by) s
-  unfolding cut
-  parts_are [] = refl
-  parts_are (b ∷ s) = omega (arith, count_cons b s, parts_are s, sum_by-cons (λ x. cond (x == by) 1 0) b s)
+  module _ (s : List ℕ) (i n : ℕ) (e : n + length (cut by (drop i s)) ≡ 1 + length (cut by s)) where
+    pub count_turn : (d : ℕ) → i < length s → d ≡ cond (eqb (get_or s i 0) by) 1 0 → n + d + length (cut by (drop (i + 1) s)) ≡ 1 + length (cut by s)
+    count_turn d h f =
+        let g : length (cut by (drop i s)) ≡ d + length (cut by (drop (i + 1) s)) = ap (λ (x : List ℕ). length (cut by x)) (drop_next s i h) ∙ count_cons (get_or s i 0) (drop (i + 1) s) ∙ ap (λ (k : ℕ). k + length (cut by (drop (i + 1) s))) (sym f) in
+        omega arith
+
+    pub count_done : length s ≤ i → n ≡ length (cut by s)
+    unfolding cut
+    count_done h =
+        let g : length (cut by (drop i s)) ≡ 1 = ap (λ (x : List ℕ). length (cut by x)) (drop_of_length-le s h) in
+        omega arith
 
 -- ---- so many bytes are there
 pub counted : (n k : ℕ) (s : List ℕ) → k ≡ min n (length s) → (k ≤ length s) × (k ≡ length (take k s)) × (k ≡ min n (length s))

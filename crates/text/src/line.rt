@@ -1,5 +1,5 @@
 // Parts of a text: the fields of a line.
-ghost use Rattle.std.specs.Prelude.{◌≡◌, ℕ, suc, ◌+◌, ◌-◌, ◌≤◌, min, length, take, drop};
+ghost use Rattle.std.specs.Prelude.{◌≡◌, ℕ, suc, ◌+◌, ◌-◌, ◌≤◌, cond, eqb, min, length, take, drop};
 ghost use Rattle.text.specs.Line.{cut, part_at, same};
 
 const BLANK: u8 = 32;
@@ -47,12 +47,22 @@ pub fn part(s: &[u8], by: u8, k: usize) -> &[u8]
     &s[a..e]
 }
 
-// How many parts there are.
-#[tactic(auto, using(crate::proofs::Splits::parts_are))]
+// 1 for the byte `by`, else 0.
+fn one_for(c: u8, by: u8) -> usize
+    ensures { (result ≡ cond (eqb c by) 1 0) × (result ≤ 1) }
+{
+    if c == by { 1 } else { 0 }
+}
+
+// How many parts there are. Counted without a branch: `filter` had one for each byte.
 pub fn parts(s: &[u8], by: u8) -> usize
     ensures { result ≡ length (cut by s.now) }
 {
-    1 + s.iter().filter(|b| **b == by).count()
+    let mut n = 1;
+    for b in s {
+        n += one_for(*b, by);
+    }
+    n
 }
 
 // Field k of a line, counted from 0; empty where there is none.
