@@ -1,5 +1,5 @@
 -- Laws of the texts of the status codes.
-use Rattle.std.specs.Prelude.{Option, None, Some, Result, Ok, Err, option_map}
+use Rattle.std.specs.Prelude.{Option, None, Some, Result, Ok, Err}
 use Prim.Native.Nat.{ℕ, min, ◌≤◌, ◌<◌}
 use mathlib.Core.Path.{◌≡◌, refl, ap, sym, subst, ◌∙◌}
 use mathlib.Core.Bool.{Bool, true, false, cond, ◌&&◌}
@@ -57,9 +57,10 @@ module _ (rows : List (ℕ × List ℕ)) (h : T (short rows)) (c : ℕ) {l m : L
   pub row_told : (t : List ℕ) → Some t ≡ text_in rows c → Tells (Some (take 96 t)) l r m → Tells (text_in rows c) l r m
   row_told t e w = rw (← e) (subst (λ (x : List ℕ). Tells (Some x) l r m) (take_all 96 t (short_text rows h c t (sym e))) w)
 
-pub code_told : {l m : List ℕ} {r : Result (Option ℕ) Refusal} (c : ℕ) (t : List ℕ) → Some t ≡ text_of c → Tells (Some (take 96 t)) l r m → Tells (text_of c) l r m
+-- ---- the text of a code
+pub code_told : (code : ℕ) (l m : List ℕ) (r : Result (Option ℕ) Refusal) (status : ℕ) (text : List ℕ) → status ≡ code → text_in texts code ≡ Some text → Tells (Some text) l r m → Tells (text_of status) l r m
 unfolding text_of
-code_told c t e w = row_told texts tt c t e w
+code_told code l m r status text e f w = subst (λ (t : Option (List ℕ)). Tells t l r m) (sym (ap (text_in texts) e ∙ f)) w
 
 -- ---- a status that is none of the codes has no text
 abbrev code_of : ℕ × List ℕ → ℕ
