@@ -2,14 +2,12 @@
 use crate::answers::{Answer, Answered, Text};
 use crate::lines::Call;
 use address::{Address, Reading};
-use std::fmt;
-use std::fmt::Write;
 
 // `tag TAG`
 pub fn tag(call: Call<'_>, memory: &mut [u8]) -> Answered {
     let x = address::parse_tag(call.bytes(0), reading(call))?;
     let mut text = Text::new(memory);
-    let _ = shown(x, &mut text);
+    shown(x, &mut text);
     Ok(text.answer())
 }
 
@@ -30,22 +28,20 @@ pub fn reading(call: Call<'_>) -> Reading {
 }
 
 // CODE file element position sub bit count keptlength
-fn shown(x: Address, text: &mut Text<'_>) -> fmt::Result {
-    let code = x.file_type.code();
-    let file = x.file_number;
-    let element = x.element_number;
-    write!(text, " {code:02X} {file} {element}")?;
-    or_dash(x.pos_number, text)?;
-    or_dash(x.sub_element, text)?;
-    let bit = u8::from(x.bit);
-    let count = x.element_count;
-    let kept = x.kept;
-    write!(text, " {bit} {count} {kept}")
+fn shown(x: Address, text: &mut Text<'_>) {
+    text.code(b' ', x.file_type.code());
+    text.number(b' ', u64::from(x.file_number));
+    text.number(b' ', u64::from(x.element_number));
+    or_dash(x.pos_number, text);
+    or_dash(x.sub_element, text);
+    text.number(b' ', u64::from(x.bit));
+    text.number(b' ', x.element_count);
+    text.number(b' ', x.kept as u64);
 }
 
-fn or_dash(n: Option<u16>, text: &mut Text<'_>) -> fmt::Result {
+fn or_dash(n: Option<u16>, text: &mut Text<'_>) {
     match n {
-        Some(n) => write!(text, " {n}"),
-        None => write!(text, " -"),
+        Some(n) => text.number(b' ', u64::from(n)),
+        None => text.plain(b" -"),
     }
 }

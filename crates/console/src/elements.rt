@@ -24,7 +24,7 @@ pub fn decoded(call: Call<'_>, memory: &mut [u8]) -> Answered {
 // An element, whose text stands in `characters`.
 pub fn as_shown(t: FileType, e: Element, characters: &[u8], memory: &mut [u8]) -> Answer {
     let mut text = Text::new(memory);
-    let _ = shown::element(t, e, characters, &mut text);
+    shown::element(t, e, characters, &mut text);
     text.answer()
 }
 

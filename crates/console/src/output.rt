@@ -1,6 +1,6 @@
 // Text for standard output, through a buffer. Where there is no room, what waits is written out first, and what is longer than the buffer is
 // written straight away: nothing that is said is ever cut. No function has a `requires`.
-ghost use Rattle.std.specs.Prelude.{◌≡◌, true, false, [], ◌∷◌, ◌+◌, ◌<◌, length};
+ghost use Rattle.std.specs.Prelude.{◌≡◌, true, false, ◌+◌, ◌<◌, ◌≤◌, length};
 ghost use Rattle.text.specs.Hex.{hex as hex_hex};
 ghost use Rattle.decimal.specs.Decimals.{decimal};
 ghost use Rattle.console.specs.Said.{Said};
@@ -88,16 +88,17 @@ impl<'a, R: Print> Output<'a, R> {
         ensures { Said self.old.bytes self.old.pending (hex_hex bytes.now) self.new.pending self.new.bytes }
     {
         self.plain(b"");
-        for b in bytes {
-            self.hex_byte(*b);
+        for piece in bytes.chunks(256) {
+            self.hex_piece(piece);
         }
     }
 
-    fn hex_byte(&mut self, b: u8)
-        ensures { Said self.old.bytes self.old.pending (hex_hex (b ∷ [])) self.new.pending self.new.bytes }
+    fn hex_piece(&mut self, bytes: &[u8])
+        requires { length bytes.now ≤ 256 }
+        ensures { Said self.old.bytes self.old.pending (hex_hex bytes.now) self.new.pending self.new.bytes }
     {
-        let mut digits = [0u8; 2];
-        let n = text::put_hex(&mut digits, 0, &[b]);
+        let mut digits = [0u8; 512];
+        let n = text::put_hex(&mut digits, 0, bytes);
         self.plain(&digits[..n]);
     }
 

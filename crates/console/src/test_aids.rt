@@ -8,7 +8,6 @@ use crate::processors::plc::Plc;
 use base::Refusal;
 use processor_spec::FileRecord;
 pub use spoiled::spoil;
-use std::fmt::Write;
 
 // The records in use: without any there is no processor.
 fn files(plc: &Plc) -> Result<&[FileRecord], Refusal> {
@@ -38,7 +37,7 @@ pub fn fill(call: Call<'_>, plc: &mut Plc) -> Answered {
 pub fn dump(memory: &mut [u8], plc: &Plc) -> Answered {
     let files = files(plc)?;
     let mut text = Text::new(memory);
-    let _ = dumped::shown(files, plc, &mut text);
+    dumped::shown(files, plc, &mut text);
     Ok(text.answer())
 }
 
@@ -51,7 +50,8 @@ pub fn hash(memory: &mut [u8], plc: &Plc) -> Answered {
         let image = plc.image();
         let h = fnv(&image[..end.min(image.len())]);
         let left = plc.slc.log_left;
-        let _ = write!(text, " {h:016X} {left}");
+        text.byte_string(b' ', &h.to_be_bytes());
+        text.number(b' ', left as u64);
     }
     Ok(text.answer())
 }

@@ -20,7 +20,7 @@ fn of_type(known: Option<FileType>, memory: &mut [u8]) -> Answer {
         return Answer::Nothing;
     };
     let mut text = Text::new(memory);
-    let _ = shown::file_type(t, &mut text);
+    shown::file_type(t, &mut text);
     text.answer()
 }
 
@@ -33,7 +33,7 @@ pub fn simulated(call: Call<'_>, memory: &mut [u8]) -> Answered {
         return Ok(Answer::Nothing);
     }
     let mut text = Text::new(memory);
-    let _ = shown::simulated(t, &mut text);
+    shown::simulated(t, &mut text);
     Ok(text.answer())
 }
 

@@ -5,9 +5,8 @@ use mathlib.Core.List.{List, [], ◌∷◌, ◌++◌, append_assoc, append-nil}
 use mathlib.Core.Bool.{Bool, true, false, cond}
 use native.Mathlib.Nat.{add-zero}
 use native.Mathlib.Omega.{arith}
-use lib.ListN.{length, take, drop, get_or, length-append, drop_of_length-le}
-use Rattle.std.proofs.lemmas.List.{take_more}
-use lib.Seq.{length-take-le, drop_at, drop-drop, drop-append-le, take_all}
+use lib.ListN.{length, take, drop, length-append, drop_of_length-le}
+use lib.Seq.{length-take-le, drop_at, drop-drop, drop-append-le}
 use mir.Syntax.{w64}
 use mir.Val.{Fits}
 use Rattle.base.specs.Put.{Wrote, Puts}
@@ -115,26 +114,26 @@ module _ (t x bs : List ℕ) (e : ℕ) (w : Puts t 0 bs e x) (h : length bs ≤ 
   laid_said {out} {out'} {p} {r} s =
       subst (λ (l : List ℕ). Said out p l r out') (ap₂ take laid.end laid.now ∙ put_front t 0 bs (omega arith)) s
 
-pub hex_small : (b : ℕ) → length (hex (b ∷ [])) ≤ 2
-hex_small b = omega (arith, hex_length (b ∷ []))
+pub hex_small : (bs : List ℕ) → length bs ≤ 256 → length (hex bs) ≤ 512
+hex_small bs h = omega (arith, hex_length bs)
 
 pub decimal_small : (n : ℕ) → Fits w64 n → length (decimal n) ≤ 20
 decimal_small n f = decimal_length 19 n (omega (arith, f.fits))
 
--- ---- digits byte by byte
+-- ---- digits in pieces
 hex_append : (bs cs : List ℕ) → hex (bs ++ cs) ≡ hex bs ++ hex cs
 unfolding hex
 hex_append [] cs = refl
 hex_append (b ∷ bs) cs = ap (λ (l : List ℕ). digit (b / 16) ∷ digit (b % 16) ∷ l) (hex_append bs cs)
 
-module _ {out₀ out : List ℕ} {q₀ q : Pending} (bs : List ℕ) (i : ℕ) (a : Said out₀ q₀ (hex (take i bs)) q out) where
-  pub hex_turn : {b : ℕ} {r : Pending} {out' : List ℕ} → length out ≡ length out₀ → i < length bs → b ≡ get_or bs i 0 → Said out q (hex (b ∷ [])) r out' → Said out₀ q₀ (hex (take (i + 1) bs)) r out'
-  hex_turn {b} {r} {out'} len h d s =
-      let e : hex (take i bs) ++ hex (b ∷ []) ≡ hex (take (i + 1) bs) = sym (hex_append (take i bs) (b ∷ [])) ∙ ap hex (ap (λ (x : ℕ). take i bs ++ (x ∷ [])) d ∙ sym (take_more bs i 0 h)) in
-      subst (λ (l : List ℕ). Said out₀ q₀ l r out') e (said_then len a s)
+module _ {out₀ out : List ℕ} {q₀ q : Pending} (done : List ℕ) (a : Said out₀ q₀ (hex done) q out) where
+  pub hex_turn : (piece : List ℕ) {r : Pending} {out' : List ℕ} → length out ≡ length out₀ → Said out q (hex piece) r out' → Said out₀ q₀ (hex (done ++ piece)) r out'
+  hex_turn piece {r} {out'} len b =
+      subst (λ (l : List ℕ). Said out₀ q₀ l r out') (sym (hex_append done piece)) (said_then len a b)
 
-  pub hex_done : {l : List ℕ} {p : Pending} → length bs ≤ i → length out₀ ≡ length l → Said l p [] q₀ out₀ → Said l p (hex bs) q out
-  hex_done h len b = said_then len b (subst (λ (x : List ℕ). Said out₀ q₀ (hex x) q out) (take_all i bs h) a)
+  pub hex_done : (rest bs : List ℕ) {l : List ℕ} {p : Pending} → length rest ≡ 0 → done ++ rest ≡ bs → length out₀ ≡ length l → Said l p [] q₀ out₀ → Said l p (hex bs) q out
+  hex_done [] bs h e len b = said_then len b (subst (λ (x : List ℕ). Said out₀ q₀ (hex x) q out) (sym (append-nil done) ∙ e) a)
+  hex_done (x ∷ rest) bs h e len b = absurd (omega arith)
 
 pub said_none : (out : List ℕ) (q : Pending) → q.at ≤ length out → Said out q [] q out
 said_none out q h = record {
@@ -146,9 +145,9 @@ said_none out q h = record {
   shut = λ e. e;
 }
 
-pub hex_start : (out : List ℕ) (q : Pending) (bs : List ℕ) → q.at ≤ length out → Said out q (hex (take 0 bs)) q out
+pub hex_start : (out : List ℕ) (q : Pending) → q.at ≤ length out → Said out q (hex []) q out
 unfolding hex
-hex_start out q bs h = said_none out q h
+hex_start out q h = said_none out q h
 
 -- ---- answers
 module _ {k l m n : List ℕ} {p q r t : Pending} (f : length l ≡ length k) (g : length m ≡ length l) where

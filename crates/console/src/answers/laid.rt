@@ -1,8 +1,11 @@
 // Text of an answer, laid in lent memory.
-use crate::answers::Answer;
-use std::fmt;
+ghost use Rattle.base.specs.Put.{Puts};
+ghost use Rattle.text.specs.Hex.{hex as hex_hex};
+ghost use Rattle.decimal.specs.Decimals.{decimal, signed_text};
 
-// The text is the first `end` bytes. What finds no room is left out, so that no write fails.
+use crate::answers::Answer;
+
+// The text is the first `end` bytes. What finds no room is left out whole.
 #[derive(Drop)]
 pub struct Text<'a> {
     memory: &'a mut [u8],
@@ -14,13 +17,58 @@ impl<'a> Text<'a> {
         Text { memory, end: 0 }
     }
 
-    // Bytes in hexadecimal, `-` where there are none.
-    pub fn byte_string(&mut self, bytes: &[u8]) {
-        self.end = if bytes.is_empty() {
-            base::put_all(self.memory, self.end, b"-")
+    // Bytes as they are.
+    pub fn plain(&mut self, bytes: &[u8])
+        ensures { Puts self.old.memory.now self.old.end bytes.now self.new.end self.new.memory.now }
+    {
+        self.end = base::put_all(self.memory, self.end, bytes);
+    }
+
+    // Two digits for each byte.
+    fn hex(&mut self, bytes: &[u8])
+        ensures { Puts self.old.memory.now self.old.end (hex_hex bytes.now) self.new.end self.new.memory.now }
+    {
+        self.end = text::put_hex(self.memory, self.end, bytes);
+    }
+
+    // A number without a sign.
+    pub fn decimal(&mut self, n: u64)
+        ensures { Puts self.old.memory.now self.old.end (decimal n) self.new.end self.new.memory.now }
+    {
+        self.end = decimal::put_decimal(self.memory, self.end, n);
+    }
+
+    fn signed_decimal(&mut self, n: i64)
+        ensures { Puts self.old.memory.now self.old.end (signed_text n) self.new.end self.new.memory.now }
+    {
+        self.end = decimal::put_signed(self.memory, self.end, n);
+    }
+
+    // A sign and a number.
+    pub fn number(&mut self, sign: u8, n: u64) {
+        self.plain(&[sign]);
+        self.decimal(n);
+    }
+
+    pub fn signed(&mut self, sign: u8, n: i64) {
+        self.plain(&[sign]);
+        self.signed_decimal(n);
+    }
+
+    // A sign and a byte in hexadecimal.
+    pub fn code(&mut self, sign: u8, b: u8) {
+        self.plain(&[sign]);
+        self.hex(&[b]);
+    }
+
+    // A sign and bytes in hexadecimal, `-` where there are none.
+    pub fn byte_string(&mut self, sign: u8, bytes: &[u8]) {
+        self.plain(&[sign]);
+        if bytes.is_empty() {
+            self.plain(b"-");
         } else {
-            text::put_hex(self.memory, self.end, bytes)
-        };
+            self.hex(bytes);
+        }
     }
 
     pub fn len(&self) -> usize {
@@ -29,12 +77,5 @@ impl<'a> Text<'a> {
 
     pub fn answer(&self) -> Answer {
         Answer::Text(self.end)
-    }
-}
-
-impl fmt::Write for Text<'_> {
-    fn write_str(&mut self, s: &str) -> fmt::Result {
-        self.end = base::put_all(self.memory, self.end, s.as_bytes());
-        Ok(())
     }
 }

@@ -2,8 +2,6 @@
 use crate::answers::Text;
 use crate::lines::Call;
 use crate::output::Output;
-use std::fmt;
-use std::fmt::Write;
 
 // No directory has more files than bytes, so that these have room for all.
 pub fn say_dir<R: Print>(out: &mut Output<'_, R>, call: Call<'_>) {
@@ -40,15 +38,14 @@ fn listed<R: Print>(out: &mut Output<'_, R>, files: &[[u32; 4]]) {
 fn file<R: Print>(out: &mut Output<'_, R>, f: &[u32; 4]) {
     let mut memory = [0u8; 64];
     let mut text = Text::new(&mut memory);
-    let _ = row(f, &mut text);
+    row(f, &mut text);
     let n = text.len().min(64);
     out.plain(&memory[..n]);
 }
 
-fn row(f: &[u32; 4], text: &mut Text<'_>) -> fmt::Result {
-    let code = f[0] % 256;
-    let number = f[1];
-    let elements = f[2];
-    let length = f[3];
-    write!(text, " {code:02X}:{number}:{elements}:{length}")
+fn row(f: &[u32; 4], text: &mut Text<'_>) {
+    text.code(b' ', (f[0] % 256) as u8);
+    text.number(b':', u64::from(f[1]));
+    text.number(b':', u64::from(f[2]));
+    text.number(b':', u64::from(f[3]));
 }

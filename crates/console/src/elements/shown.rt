@@ -2,31 +2,36 @@
 use crate::answers::Text;
 use element_spec::Element;
 use file_type::FileType;
-use std::fmt;
-use std::fmt::Write;
 
 // Its text stands in `characters`.
-pub fn element(t: FileType, e: Element, characters: &[u8], text: &mut Text<'_>) -> fmt::Result {
+pub fn element(t: FileType, e: Element, characters: &[u8], text: &mut Text<'_>) {
     match e {
-        Element::Whole(n) => write!(text, " i:{n}"),
-        Element::Float(bits) => write!(text, " f:{bits:08X}"),
+        Element::Whole(n) => {
+            text.plain(b" i");
+            text.signed(b':', i64::from(n));
+        }
+        Element::Float(bits) => {
+            text.plain(b" f");
+            text.byte_string(b':', &bits.to_be_bytes());
+        }
         Element::Text(n) => {
-            write!(text, " s:")?;
-            text.byte_string(&characters[..n.min(characters.len())]);
-            Ok(())
+            text.plain(b" s");
+            text.byte_string(b':', &characters[..n.min(characters.len())]);
         }
         Element::Fields(a, b, status) => {
-            write!(text, " t:{a}:{b}:")?;
-            named_bits(t, status, text)
+            text.plain(b" t");
+            text.signed(b':', i64::from(a));
+            text.signed(b':', i64::from(b));
+            text.plain(b":");
+            named_bits(t, status, text);
         }
     }
 }
 
 // A digit for each named bit, from bit 15 down.
-fn named_bits(t: FileType, status: u16, text: &mut Text<'_>) -> fmt::Result {
+fn named_bits(t: FileType, status: u16, text: &mut Text<'_>) {
     for i in 0..file_type_fields::bits(t) {
-        let bit = u8::from(status & base::bit_mask(15usize.saturating_sub(i)) != 0);
-        write!(text, "{bit}")?;
+        let mask = base::bit_mask(15usize.saturating_sub(i));
+        text.decimal(u64::from(status & mask != 0));
     }
-    Ok(())
 }

@@ -2,21 +2,17 @@
 use crate::answers::Text;
 use crate::processors::plc::Plc;
 use processor_spec::FileRecord;
-use std::fmt;
-use std::fmt::Write;
 
-pub fn shown(files: &[FileRecord], plc: &Plc, text: &mut Text<'_>) -> fmt::Result {
+pub fn shown(files: &[FileRecord], plc: &Plc, text: &mut Text<'_>) {
     let n = files.len();
     let image = plc.image();
-    write!(text, " {n}")?;
+    text.number(b' ', n as u64);
     for r in files {
-        let number = r.number;
-        write!(text, " {number}:")?;
-        text.byte_string(&[r.code]);
-        write!(text, ":")?;
-        text.byte_string(file(*r, &image));
+        text.number(b' ', u64::from(r.number));
+        text.code(b':', r.code);
+        text.byte_string(b':', file(*r, &image));
     }
-    entries(plc, text)
+    entries(plc, text);
 }
 
 // The bytes of a file, as far as there are any.
@@ -26,18 +22,16 @@ fn file(r: FileRecord, image: &[u8]) -> &[u8] {
 }
 
 // The entries that are left, each a length word and its bytes.
-fn entries(plc: &Plc, text: &mut Text<'_>) -> fmt::Result {
+fn entries(plc: &Plc, text: &mut Text<'_>) {
     let left = plc.slc.log_left;
-    write!(text, " log")?;
-    write!(text, " {left}")?;
+    text.plain(b" log");
+    text.number(b' ', left as u64);
     let mut rest = &plc.log[plc.slc.log_at.min(plc.log.len())..];
     for _ in 0..left.min(64) {
         let n = usize::from(base::word_at(rest, 0));
         let bytes = &rest[rest.len().min(2)..];
         let (entry, behind) = bytes.split_at(n.min(bytes.len()));
-        write!(text, " ")?;
-        text.byte_string(entry);
+        text.byte_string(b' ', entry);
         rest = behind;
     }
-    Ok(())
 }

@@ -1,6 +1,6 @@
 use borrow.Author.Rules.{rules}
 use Rattle.console.proofs.output.Saying.{laid_fits, laid_counts, laid_said, hex_small}
-use Rattle.console.proofs.output.Output.hex_byte.Goals as goal
+use Rattle.console.proofs.output.Output.hex_piece.Goals as goal
 
 pub slice_bounds-digits-end : goal.slice_bounds-digits-end
 slice_bounds-digits-end g c = search (laid_fits, hex_small, rules)
