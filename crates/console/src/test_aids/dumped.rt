@@ -5,23 +5,23 @@ use processor_spec::FileRecord;
 use std::fmt;
 use std::fmt::Write;
 
-pub fn shown(files: &[FileRecord], plc: &Plc, text: &mut Text<'_>) -> fmt::Result {
+pub fn shown(plc: &Plc, text: &mut Text<'_>) -> fmt::Result {
+    let files = plc.files();
     let n = files.len();
-    let image = plc.image();
     write!(text, " {n}")?;
     for r in files {
         let number = r.number;
         write!(text, " {number}:")?;
         text.byte_string(&[r.code]);
         write!(text, ":")?;
-        text.byte_string(file(*r, &image));
+        text.byte_string(file(*r, &plc.bytes));
     }
     entries(plc, text)
 }
 
 // The bytes of a file, as far as there are any.
-fn file(r: FileRecord, image: &[u8]) -> &[u8] {
-    let rest = &image[usize::from(r.start).min(image.len())..];
+fn file(r: FileRecord, bytes: &[u8]) -> &[u8] {
+    let rest = &bytes[usize::from(r.start).min(bytes.len())..];
     &rest[..usize::from(r.length).min(rest.len())]
 }
 
