@@ -1,10 +1,12 @@
 // A line of the input, which comes in pieces.
+ghost use Rattle.std.specs.Prelude.{◌≤◌, length};
 
 // Room for a line and one byte more: a line that fills it is longer than a line may be, and what does not fit is left out.
 #[derive(Drop)]
 pub struct Line {
     bytes: [u8; 262145],
     kept: usize,
+    ghost fits: { kept ≤ length bytes },
 }
 
 impl Line {
@@ -16,8 +18,8 @@ impl Line {
     }
 
     pub fn keep(&mut self, b: u8) {
-        if let Some(place) = self.bytes.get_mut(self.kept) {
-            *place = b;
+        if self.kept < self.bytes.len() {
+            self.bytes[self.kept] = b;
             self.kept += 1;
         }
     }

@@ -27,28 +27,31 @@ pub fn fill(call: Call<'_>, plc: &mut Plc) -> Answered {
         .find(|r| u64::from(r.number) == number && usize::from(r.length) == bytes.len())
         .ok_or(Refusal::NoSuchElement)?;
     let start = usize::from(place.start);
-    let mut image = plc.image();
-    base::put_all(&mut image, start, bytes);
-    plc.keep(&image);
+    let reached = plc.reached();
+    base::put_all(&mut plc.bytes, start, bytes);
+    if reached {
+        plc.keep_behind();
+    }
     Ok(Answer::Done)
 }
 
 // `dump`: n number:CODE:BYTES .. log k ENTRY ..
-pub fn dump(memory: &mut [u8], plc: &Plc) -> Answered {
-    let files = files(plc)?;
+pub fn dump(memory: &mut [u8], plc: &mut Plc) -> Answered {
+    files(plc)?;
+    plc.reached();
     let mut text = Text::new(memory);
-    dumped::shown(files, plc, &mut text);
+    dumped::shown(plc, &mut text);
     Ok(text.answer())
 }
 
 // `hash`: H k, FNV-1a (64 bits) of all file bytes in ascending file order, and how many datalog entries are left
-pub fn hash(memory: &mut [u8], plc: &Plc) -> Answered {
+pub fn hash(memory: &mut [u8], plc: &mut Plc) -> Answered {
     let mut text = Text::new(memory);
     // The files lie end to end from 0 on.
     if let Some(last) = files(plc)?.last() {
         let end = usize::from(last.start).saturating_add(usize::from(last.length));
-        let image = plc.image();
-        let h = fnv(&image[..end.min(image.len())]);
+        plc.reached();
+        let h = fnv(&plc.bytes[..end.min(plc.bytes.len())]);
         let left = plc.slc.log_left;
         text.byte_string(b' ', &h.to_be_bytes());
         text.number(b' ', left as u64);

@@ -1,4 +1,6 @@
 // The lists in a line that builds a processor: FILES and LOG of oracle/PROTOCOL.md, each read in one pass.
+ghost use Rattle.std.specs.Prelude.{◌≡◌, ◌≤◌, length, take, IfOk};
+
 use crate::answers::Fault;
 
 // What is above 32 bits is held to 4,294,967,295, which is refused alike.
@@ -35,7 +37,9 @@ pub fn files(s: &[u8], out: &mut [[u32; 3]]) -> Result<usize, Fault> {
 }
 
 // The bytes of a datalog entry: `.` for none, else digits.
-fn entry(s: &[u8], space: &mut [u8]) -> Result<usize, Fault> {
+fn entry(s: &[u8], space: &mut [u8]) -> Result<usize, Fault>
+    ensures { IfOk result (λ n. (n ≤ length space.new) × (n ≡ length (take n space.new))) }
+{
     let digits: &[u8] = match s {
         b"." => b"-",
         b"-" => b"",

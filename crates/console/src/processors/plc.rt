@@ -1,4 +1,6 @@
 // The console's processor: its plain data, the table of its files, their data, and its datalog.
+ghost use Rattle.std.specs.Prelude.{◌≤◌, length};
+
 use base::Refusal;
 use element_spec::Element;
 use processor_element_core::{Setting, Spot};
@@ -7,13 +9,17 @@ use processor_spec::{FileRecord, Slc};
 // Room for 64 entries of 255 bytes, each behind a length word.
 pub const LOG: usize = 16448;
 
+// Room for the files' data.
+pub const DATA: usize = 65535;
+
 #[derive(Drop)]
 pub struct Plc {
     pub slc: Slc,
     pub table: [FileRecord; 256],
-    pub memory: [u8; 65535],
+    // the files' data, and behind it room for what stands there where the processor is seen as bytes (image)
+    pub bytes: [u8; 83848],
     pub log: [u8; LOG],
-    // what stands behind the numbers where the processor is seen as bytes (image)
+    // what stands behind the numbers then
     pub spare: [u8; 30],
 }
 
@@ -36,7 +42,7 @@ impl Plc {
                 log_left: 0,
             },
             table: [NO_FILE; 256],
-            memory: [0; 65535],
+            bytes: [0; 83848],
             log: [0; LOG],
             spare: [0; 30],
         }
@@ -52,9 +58,11 @@ impl Plc {
     ) -> Result<(), Refusal> {
         self.table = [NO_FILE; 256];
         self.log = log;
+        let bytes = &mut self.bytes[..];
+        let end = DATA.min(bytes.len());
         let built = processor_new::new(
             &mut self.table,
-            &mut self.memory,
+            &mut bytes[..end],
             &self.log,
             count,
             files,
@@ -65,7 +73,9 @@ impl Plc {
     }
 
     // The records in use, as far as the table goes.
-    pub fn files(&self) -> &[FileRecord] {
+    pub fn files(&self) -> &[FileRecord]
+        ensures { length result.now ≤ 256 }
+    {
         &self.table[..self.slc.files.min(256)]
     }
 
@@ -76,10 +86,12 @@ impl Plc {
 
     // The length of its reply to a command.
     pub fn obey(&mut self, command: &[u8], reply: &mut [u8]) -> Result<usize, Refusal> {
+        let bytes = &mut self.bytes[..];
+        let end = DATA.min(bytes.len());
         let done = processor::pccc(
             self.slc,
             &self.table,
-            &mut self.memory,
+            &mut bytes[..end],
             &self.log,
             command,
             reply,
@@ -89,14 +101,23 @@ impl Plc {
     }
 
     pub fn element(&self, spot: Spot, text: &mut [u8]) -> Result<Element, Refusal> {
-        processor_element::read(self.slc, &self.table, &self.memory, &self.log, spot, text)
+        processor_element::read(
+            self.slc,
+            &self.table,
+            &self.bytes[..DATA],
+            &self.log,
+            spot,
+            text,
+        )
     }
 
     pub fn set(&mut self, setting: Setting, text: &[u8]) -> Result<(), Refusal> {
+        let bytes = &mut self.bytes[..];
+        let end = DATA.min(bytes.len());
         processor_element::set(
             self.slc,
             &self.table,
-            &mut self.memory,
+            &mut bytes[..end],
             &self.log,
             setting,
             text,

@@ -3,21 +3,20 @@ use crate::answers::Text;
 use crate::processors::plc::Plc;
 use processor_spec::FileRecord;
 
-pub fn shown(files: &[FileRecord], plc: &Plc, text: &mut Text<'_>) {
-    let n = files.len();
-    let image = plc.image();
-    text.number(b' ', n as u64);
+pub fn shown(plc: &Plc, text: &mut Text<'_>) {
+    let files = plc.files();
+    text.number(b' ', files.len() as u64);
     for r in files {
         text.number(b' ', u64::from(r.number));
         text.code(b':', r.code);
-        text.byte_string(b':', file(*r, &image));
+        text.byte_string(b':', file(*r, &plc.bytes));
     }
     entries(plc, text);
 }
 
 // The bytes of a file, as far as there are any.
-fn file(r: FileRecord, image: &[u8]) -> &[u8] {
-    let rest = &image[usize::from(r.start).min(image.len())..];
+fn file(r: FileRecord, bytes: &[u8]) -> &[u8] {
+    let rest = &bytes[usize::from(r.start).min(bytes.len())..];
     &rest[..usize::from(r.length).min(rest.len())]
 }
 
