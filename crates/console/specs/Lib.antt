@@ -1,2 +1,3 @@
 pub mod AnswerLines
+pub mod Pieces
 pub mod Said

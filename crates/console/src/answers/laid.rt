@@ -1,7 +1,10 @@
 // Text of an answer, laid in lent memory.
+ghost use Rattle.std.specs.Prelude.{[], ◌∷◌};
 ghost use Rattle.base.specs.Put.{Puts};
 ghost use Rattle.text.specs.Hex.{hex as hex_hex};
 ghost use Rattle.decimal.specs.Decimals.{decimal, signed_text};
+ghost use Rattle.console.specs.Pieces.{PutsTwo};
+ghost use Rattle.console.specs.AnswerLines.{byte_string as lines_byte_string};
 
 use crate::answers::Answer;
 
@@ -45,24 +48,35 @@ impl<'a> Text<'a> {
     }
 
     // A sign and a number.
-    pub fn number(&mut self, sign: u8, n: u64) {
+    #[tactic(auto, using(crate::proofs::answers::TwoPieces::two_laid))]
+    pub fn number(&mut self, sign: u8, n: u64)
+        ensures { PutsTwo self.old.memory.now self.old.end (sign ∷ []) (decimal n) self.new.end self.new.memory.now }
+    {
         self.plain(&[sign]);
         self.decimal(n);
     }
 
-    pub fn signed(&mut self, sign: u8, n: i64) {
+    #[tactic(auto, using(crate::proofs::answers::TwoPieces::two_laid))]
+    pub fn signed(&mut self, sign: u8, n: i64)
+        ensures { PutsTwo self.old.memory.now self.old.end (sign ∷ []) (signed_text n) self.new.end self.new.memory.now }
+    {
         self.plain(&[sign]);
         self.signed_decimal(n);
     }
 
     // A sign and a byte in hexadecimal.
-    pub fn code(&mut self, sign: u8, b: u8) {
+    #[tactic(auto, using(crate::proofs::answers::TwoPieces::two_laid))]
+    pub fn code(&mut self, sign: u8, b: u8)
+        ensures { PutsTwo self.old.memory.now self.old.end (sign ∷ []) (hex_hex (b ∷ [])) self.new.end self.new.memory.now }
+    {
         self.plain(&[sign]);
         self.hex(&[b]);
     }
 
     // A sign and bytes in hexadecimal, `-` where there are none.
-    pub fn byte_string(&mut self, sign: u8, bytes: &[u8]) {
+    pub fn byte_string(&mut self, sign: u8, bytes: &[u8])
+        ensures { PutsTwo self.old.memory.now self.old.end (sign ∷ []) (lines_byte_string bytes.now) self.new.end self.new.memory.now }
+    {
         self.plain(&[sign]);
         if bytes.is_empty() {
             self.plain(b"-");
