@@ -18,6 +18,11 @@ fn files(plc: &Plc) -> Result<&[FileRecord], Refusal> {
     Ok(files)
 }
 
+// The place behind a file.
+fn end_of(r: &FileRecord) -> usize {
+    usize::from(r.start).saturating_add(usize::from(r.length))
+}
+
 // `fill NUMBER BYTES`: sets all bytes of a file. 19 where no file has this number and as many bytes.
 pub fn fill(call: Call<'_>, plc: &mut Plc) -> Answered {
     let number = call.number(0);
@@ -27,18 +32,17 @@ pub fn fill(call: Call<'_>, plc: &mut Plc) -> Answered {
         .find(|r| u64::from(r.number) == number && usize::from(r.length) == bytes.len())
         .ok_or(Refusal::NoSuchElement)?;
     let start = usize::from(place.start);
-    let reached = plc.reached();
+    let end = start.saturating_add(bytes.len());
+    plc.lay_behind(end);
     base::put_all(&mut plc.bytes, start, bytes);
-    if reached {
-        plc.keep_behind();
-    }
+    plc.keep_behind(end);
     Ok(Answer::Done)
 }
 
 // `dump`: n number:CODE:BYTES .. log k ENTRY ..
 pub fn dump(memory: &mut [u8], plc: &mut Plc) -> Answered {
-    files(plc)?;
-    plc.reached();
+    let end = files(plc)?.iter().fold(0, |end, r| end_of(r).max(end));
+    plc.lay_behind(end);
     let mut text = Text::new(memory);
     dumped::shown(plc, &mut text);
     Ok(text.answer())
@@ -49,8 +53,8 @@ pub fn hash(memory: &mut [u8], plc: &mut Plc) -> Answered {
     let mut text = Text::new(memory);
     // The files lie end to end from 0 on.
     if let Some(last) = files(plc)?.last() {
-        let end = usize::from(last.start).saturating_add(usize::from(last.length));
-        plc.reached();
+        let end = end_of(last);
+        plc.lay_behind(end);
         let h = fnv(&plc.bytes[..end.min(plc.bytes.len())]);
         let left = plc.slc.log_left;
         text.byte_string(b' ', &h.to_be_bytes());

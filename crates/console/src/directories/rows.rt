@@ -6,12 +6,21 @@ use crate::output::Output;
 // No directory has more files than bytes, so that these have room for all.
 pub fn say_dir<R: Print>(out: &mut Output<'_, R>, call: Call<'_>) {
     if call.bytes(2).len() <= 512 {
-        let mut files = [[0u32; 4]; 512];
-        parsed(out, call, &mut files);
+        few(out, call);
     } else {
-        let mut files = [[0u32; 4]; 65535];
-        parsed(out, call, &mut files);
+        many(out, call);
     }
+}
+
+// Each in a function of its own, so that the stack holds one of the two.
+fn few<R: Print>(out: &mut Output<'_, R>, call: Call<'_>) {
+    let mut files = [[0u32; 4]; 512];
+    parsed(out, call, &mut files);
+}
+
+fn many<R: Print>(out: &mut Output<'_, R>, call: Call<'_>) {
+    let mut files = [[0u32; 4]; 65535];
+    parsed(out, call, &mut files);
 }
 
 // The output has `room` files.

@@ -1,5 +1,5 @@
 // The processor's bytes one behind the other: the data, the records, the processor's own numbers, the datalog. A record that was spoilt can reach behind
-// the data, and `dump`, `hash` and `fill` then meet what stands there: only then it is laid there.
+// the data, and `dump`, `hash` and `fill` then meet what stands there: it is laid there as far as they reach.
 use crate::processors::plc::{DATA, Plc};
 use processor_spec::FileRecord;
 
@@ -38,21 +38,18 @@ fn number(bytes: &[u8], at: usize) -> usize {
     (low + 4294967296 * high) as usize
 }
 
-fn is_behind(r: &FileRecord) -> bool {
-    DATA < usize::from(r.start).saturating_add(usize::from(r.length))
-}
-
 impl Plc {
-    // Does a record in use reach behind the data? What stands there is laid there then.
-    pub fn reached(&mut self) -> bool {
-        let reached = self.files().iter().any(is_behind);
-        if reached {
-            self.lay_behind();
+    // Lays what stands behind the data there, where the first `end` bytes reach it.
+    pub fn lay_behind(&mut self, end: usize) {
+        if DATA < end {
+            self.lay_table();
         }
-        reached
+        if LOG_AT < end {
+            base::put_all(&mut self.bytes, LOG_AT, &self.log);
+        }
     }
 
-    fn lay_behind(&mut self) {
+    fn lay_table(&mut self) {
         for (i, r) in self.table.iter().enumerate() {
             put_record(&mut self.bytes, DATA + ROW * i, *r);
         }
@@ -62,17 +59,25 @@ impl Plc {
         base::put_number(&mut self.bytes, c, 8, self.slc.log_left as u64);
         base::put_all(&mut self.bytes, TEXT, &self.slc.type_text);
         base::put_all(&mut self.bytes, BEHIND_TEXT, &self.spare);
-        base::put_all(&mut self.bytes, LOG_AT, &self.log);
     }
 
-    // The processor that the bytes behind the data are.
-    pub fn keep_behind(&mut self) {
+    // The processor that the bytes behind the data are, where the first `end` bytes reach them.
+    pub fn keep_behind(&mut self, end: usize) {
+        if DATA < end {
+            self.keep_table();
+        }
+        if LOG_AT < end {
+            let bytes = &self.bytes[..];
+            base::put_all(&mut self.log, 0, &bytes[LOG_AT..]);
+        }
+    }
+
+    fn keep_table(&mut self) {
         let bytes = &self.bytes[..];
         self.slc
             .type_text
             .copy_from_slice(&bytes[TEXT..BEHIND_TEXT]);
         base::put_all(&mut self.spare, 0, &bytes[BEHIND_TEXT..LOG_AT]);
-        base::put_all(&mut self.log, 0, &bytes[LOG_AT..]);
         self.slc.files = number(bytes, NUMBERS);
         self.slc.type_len = number(bytes, NUMBERS + 8);
         self.slc.log_at = number(bytes, NUMBERS + 16);
