@@ -11,6 +11,10 @@ pub record Onward (l s out : List ℕ) (u : ℕ) (l' s' out' : List ℕ) (u' : �
   pub prints : (r : ℕ) (m : List ℕ) → Wrote out' u' (answers (ended l' s')) r m → Wrote out u (answers (ended l s)) r m
   pub keeps : held (rest l' s') ≡ held (rest l s)
 
+-- the line with so many bytes kept
+abbrev pub with_kept : Line → ℕ → Line
+with_kept line n = record { bytes = line.bytes; kept = n }
+
 -- one byte
 pub record Stepped (b : ℕ) (line : Line) (out : List ℕ) (u r : ℕ) (line' : Line) (out' : List ℕ) : Type 0 where
   pub long : length line'.bytes ≡ length line.bytes

@@ -3,7 +3,7 @@
 
 ghost use Rattle.std.specs.Prelude.{◌≡◌, [], ◌+◌, ◌*◌, ◌≤◌, length};
 ghost use Rattle.tags_stream.specs.Pieces.{keeping, Feeds, Finishes};
-ghost use Rattle.tags_stream.specs.FeedSteps.{Stepped, Ran};
+ghost use Rattle.tags_stream.specs.FeedSteps.{Stepped, Ran, with_kept};
 
 // What is kept of a line that has not ended: its first bytes, up to 256.
 #[repr(C)]
@@ -43,33 +43,35 @@ impl Line {
         Line { bytes, kept }
     }
 
-    // One byte of the input, behind the bytes of the output that are in use: how many are then. Behind 256 bytes of a line nothing is
-    // kept: it is refused all the same.
-    fn step(&mut self, b: u8, out: &mut [u8], used: usize) -> usize
-        requires { (self.old.kept ≤ 256) × (used + 64 ≤ length out.old) }
-        ensures { Stepped b self.old out.old used result self.new out.new }
+    // One byte of the input, behind `kept` bytes of the line and the bytes of the output that are in use: how many are then. Behind 256 bytes of a
+    // line nothing is kept: it is refused all the same.
+    fn step(&mut self, b: u8, kept: usize, out: &mut [u8], used: usize) -> (usize, usize)
+        requires { (kept ≤ 256) × (used + 64 ≤ length out.old) }
+        ensures { Stepped b (with_kept self.old kept) out.old used result.1 (with_kept self.new result.0) out.new }
     {
         if b == b'\n' {
-            let next = tags_line::answer(&self.bytes[..self.kept], out, used);
-            self.kept = 0;
-            return next;
+            return (0, tags_line::answer(&self.bytes[..kept], out, used));
         }
-        if self.kept < self.bytes.len() {
-            self.bytes[self.kept] = b;
-            self.kept += 1;
+        if kept < self.bytes.len() {
+            self.bytes[kept] = b;
+            return (kept + 1, used);
         }
-        used
+        (kept, used)
     }
 
-    // All bytes of a piece.
+    // All bytes of a piece. How many are kept stands apart from the line meanwhile, or it would be stored and loaded for each byte.
     fn run(&mut self, piece: &[u8], out: &mut [u8]) -> usize
         requires { (self.old.kept ≤ 256) × (64 * length piece.now ≤ length out.old) }
         ensures { Ran piece.now self.old out.old result self.new out.new }
     {
+        let mut kept = self.kept;
         let mut used = 0;
         for b in piece {
-            used = self.step(*b, out, used);
+            let after = self.step(*b, kept, out, used);
+            kept = after.0;
+            used = after.1;
         }
+        self.kept = kept;
         used
     }
 }

@@ -5,8 +5,8 @@ use Rattle.tags_stream.proofs.Line.step.Goals as goal
 pub returns-then-b-eq10 : goal.returns-then-b-eq10
 returns-then-b-eq10 c = search (step_line, rules)
 
-pub returns-then-self-lt256 : goal.returns-then-self-lt256
-returns-then-self-lt256 c = search (step_byte, rules)
+pub returns-then-kept-lt256 : goal.returns-then-kept-lt256
+returns-then-kept-lt256 c = search (step_byte, rules)
 
-pub returns-else-self-lt256 : goal.returns-else-self-lt256
-returns-else-self-lt256 c = search (step_full, rules)
+pub returns : goal.returns
+returns c = search (step_full, rules)
