@@ -6,14 +6,14 @@ use mathlib.Core.Bool.{cond}
 use mathlib.Core.List.{List, [], ◌∷◌}
 use native.Mathlib.Nat.{add-zero}
 use native.Mathlib.Omega.{arith}
-use lib.ListN.{length, drop, get_or, length-drop}
+use lib.ListN.{length, drop, get_or}
 use Rattle.file_type.specs.Table.{of_code}
 use Rattle.directory_row.specs.declared.Row.{Row}
 use Rattle.directory_row.specs.declared.Row.TheVariants as row·
 use Rattle.directory_row.specs.Row.{row_of, number_of}
 use Rattle.directory.specs.Passes.{count_from}
 use Rattle.directory.specs.Rows.{rows, any_cut, files_from}
-use Rattle.directory.proofs.RowLaws.{rows_from, rows_end, rows_next}
+use Rattle.directory.proofs.RowLaws.{rows_end, rows_next}
 
 -- ---- a row, and the rows behind it
 one_more : (n m : ℕ) (row : Row) → count_from n (row ∷ []) ≡ Some m → (m ≤ n + 1) × ((rs : List Row) → count_from n (row ∷ rs) ≡ count_from m rs)
@@ -31,31 +31,28 @@ all_cut n row·.Reserved rs e = let z : ⊥ = cc in absurd z
 all_cut n row·.Other rs e = let z : ⊥ = cc in absurd z
 
 -- ---- the loop: what is left to count gives what the whole gives
-module _ (size : ℕ) (h : 0 < size) where
-  pub count_init : (first : ℕ) (s rest : List ℕ) → rest ≡ drop first s → count_from 0 (rows 0 size rest) ≡ count_from 0 (rows first size s)
-  count_init first s rest e = ap (λ (x : List ℕ). count_from 0 (rows 0 size x)) e ∙ ap (count_from 0) (sym (rows_from size h first s))
+module _ (size : ℕ) (h : 0 < size) (s : List ℕ) where
+  pub count_done : (at n : ℕ) (whole : Option ℕ) → count_from n (rows at size s) ≡ whole → length s ≤ at → Some n ≡ whole
+  unfolding count_from
+  count_done at n whole inv g = sym (ap (count_from n) (rows_end size h s at g)) ∙ inv
 
-  module _ (s : List ℕ) (n : ℕ) (whole : Option ℕ) (inv : count_from n (rows 0 size s) ≡ whole) where
-    pub count_done : length s < 1 → Some n ≡ whole
-    unfolding count_from
-    count_done g = sym (ap (count_from n) (rows_end size h s g)) ∙ inv
+  module _ (at n : ℕ) (whole : Option ℕ) (inv : count_from n (rows at size s) ≡ whole) (r : Row) (c : Option ℕ) (g : at < length s) (er : r ≡ row_of (of_code (get_or s at 0)) (get_or s at 0) (drop (at + 1) s)) (ec : c ≡ count_from n (r ∷ [])) where
+    next : count_from n (r ∷ rows (at + size) size s) ≡ whole
+    next = ap (λ (x : Row). count_from n (x ∷ rows (at + size) size s)) er ∙ sym (ap (count_from n) (rows_next size h s at g)) ∙ inv
 
-    module _ (r : Row) (c : Option ℕ) (g : 1 ≤ length s) (er : r ≡ row_of (of_code (get_or s 0 0)) (get_or s 0 0) (drop 1 s)) (ec : c ≡ count_from n (r ∷ [])) where
-      next : count_from n (r ∷ rows 0 size (drop size s)) ≡ whole
-      next = ap (λ (x : Row). count_from n (x ∷ rows 0 size (drop size s))) er ∙ sym (ap (count_from n) (rows_next size h s g)) ∙ inv
+    pub count_stop : c ≡ None → None ≡ whole
+    count_stop e = sym (all_cut n r (rows (at + size) size s) (sym ec ∙ e)) ∙ next
 
-      pub count_stop : c ≡ None → None ≡ whole
-      count_stop e = sym (all_cut n r (rows 0 size (drop size s)) (sym ec ∙ e)) ∙ next
+    module _ (m : ℕ) (e : c ≡ Some m) where
+      pub count_few : n ≤ at → m ≤ at + size
+      count_few k = omega (arith, (one_more n m r (sym ec ∙ e)).0)
 
-      module _ (m : ℕ) (e : c ≡ Some m) (rest : List ℕ) (f : rest ≡ drop size s) where
-        pub count_few : n + length s ≤ 65535 → m + length rest ≤ 65535
-        count_few k =
-            let i : length rest ≡ length (drop size s) = ap length f in
-            let j : length (drop size s) + 1 ≤ length s = simp length-drop (omega arith) in
-            omega (arith, (one_more n m r (sym ec ∙ e)).0)
+      pub count_turn : count_from m (rows (at + size) size s) ≡ whole
+      count_turn = sym ((one_more n m r (sym ec ∙ e)).1 (rows (at + size) size s)) ∙ next
 
-        pub count_turn : count_from m (rows 0 size rest) ≡ whole
-        count_turn = ap (λ (x : List ℕ). count_from m (rows 0 size x)) f ∙ sym ((one_more n m r (sym ec ∙ e)).1 (rows 0 size (drop size s))) ∙ next
+      -- the row was the last
+      pub count_last : length s ≤ at + size → Some m ≡ whole
+      count_last k = count_done (at + size) m whole count_turn k
 
 -- ---- what was counted
 pub count_is : (n k : ℕ) (rs : List Row) → count_from n rs ≡ cond (any_cut rs) None (Some (n + length (files_from k rs)))

@@ -1,5 +1,5 @@
 -- Laws of the second pass.
-use Prim.Native.Nat.{ℕ, suc, ◌+◌, ◌-◌, ◌/◌, ◌≤◌, ◌<◌}
+use Prim.Native.Nat.{ℕ, suc, ◌+◌, ◌/◌, ◌≤◌, ◌<◌}
 use mathlib.Core.Path.{◌≡◌, refl, ap, sym, ◌∙◌}
 use mathlib.Core.Logic.{◌⊎◌, inl, inr}
 use mathlib.Core.Bool.{Bool, true, false, ◌&&◌, cond}
@@ -8,7 +8,7 @@ use native.Mathlib.Nat.{add-zero}
 use native.Mathlib.Numerals.{add-one}
 use native.Mathlib.Omega.{arith}
 use lib.Dec.{eqb}
-use lib.ListN.{length, take, drop, get_or, set, length-set, length-drop, take-append-drop}
+use lib.ListN.{length, take, drop, get_or, set, length-set, take-append-drop}
 use lib.Seq.{take-suc-set, drop-set-lt}
 use mir.Syntax.{w32}
 use mir.Val.{Fits}
@@ -20,7 +20,7 @@ use Rattle.directory_row.specs.Row.{row_of, number_of}
 use Rattle.directory.specs.declared.rows.Turn.{Turn}
 use Rattle.directory.specs.Passes.{lay, Turned}
 use Rattle.directory.specs.Rows.{rows, files_from}
-use Rattle.directory.proofs.RowLaws.{rows_from, rows_end, rows_next}
+use Rattle.directory.proofs.RowLaws.{rows_end, rows_next}
 
 -- ---- the number of a file
 module _ (t : FileType) (n : ℕ) where
@@ -93,62 +93,41 @@ module _ (l : List (List ℕ)) (p : Turn) (r : Row) where
   turn_reserved e = no_file (p.number + 1) (λ rs. rw e) (omega arith)
 
 -- ---- the loop: what is left to lay gives what the whole gives
-module _ (size : ℕ) (h : 0 < size) where
-  module _ (first : ℕ) (s rest : List ℕ) (e : rest ≡ drop first s) where
-    whole_rows : rows 0 size rest ≡ rows first size s
-    whole_rows = ap (rows 0 size) e ∙ sym (rows_from size h first s)
+module _ (size : ℕ) (h : 0 < size) (s : List ℕ) where
+  -- no row is left
+  pub lay_ended : (at : ℕ) (l whole : List (List ℕ)) (p : Turn) → lay l p.at (files_from p.number (rows at size s)) ≡ whole → length s ≤ at → l ≡ whole
+  unfolding files_from
+  lay_ended at l whole p left g = sym (lay_none l p.at) ∙ ap (λ (rs : List Row). lay l p.at (files_from p.number rs)) (sym (rows_end size h s at g)) ∙ left
 
-    pub lay_init : (l : List (List ℕ)) → lay l 0 (files_from 0 (rows 0 size rest)) ≡ lay l 0 (files_from 0 (rows first size s))
-    lay_init l = ap (λ (rs : List Row). lay l 0 (files_from 0 rs)) whole_rows
-
-    pub files_init : (n : ℕ) → n ≡ length (files_from 0 (rows first size s)) → 0 + length (files_from 0 (rows 0 size rest)) ≡ n
-    files_init n g = omega (arith, ap (λ (rs : List Row). length (files_from 0 rs)) whole_rows)
-
-  module _ (s : List ℕ) (l whole : List (List ℕ)) (n : ℕ) (p : Turn) (left : lay l p.at (files_from p.number (rows 0 size s)) ≡ whole) (files : p.at + length (files_from p.number (rows 0 size s)) ≡ n) where
-    -- no row is left
-    pub lay_ended : length s < 1 → l ≡ whole
-    unfolding files_from
-    lay_ended g = sym (lay_none l p.at) ∙ ap (λ (rs : List Row). lay l p.at (files_from p.number rs)) (sym (rows_end size h s g)) ∙ left
-
+  module _ (at : ℕ) (l whole : List (List ℕ)) (n : ℕ) (p : Turn) (left : lay l p.at (files_from p.number (rows at size s)) ≡ whole) (files : p.at + length (files_from p.number (rows at size s)) ≡ n) where
     -- no file is left
     pub lay_done : n ≤ p.at → l ≡ whole
-    lay_done g = sym (lay_none l p.at) ∙ ap (lay l p.at) (sym (none (files_from p.number (rows 0 size s)) (omega arith))) ∙ left
+    lay_done g = sym (lay_none l p.at) ∙ ap (lay l p.at) (sym (none (files_from p.number (rows at size s)) (omega arith))) ∙ left
       where
         none : (fs : List (List ℕ)) → length fs ≤ 0 → fs ≡ []
         none [] k = refl
         none (f ∷ fs) k = absurd (omega arith)
 
-    module _ (r : Row) (g : 1 ≤ length s) (er : r ≡ row_of (of_code (get_or s 0 0)) (get_or s 0 0) (drop 1 s)) where
-      here : r ∷ rows 0 size (drop size s) ≡ rows 0 size s
-      here = ap (λ (x : Row). x ∷ rows 0 size (drop size s)) er ∙ sym (rows_next size h s g)
+    module _ (r : Row) (g : at < length s) (er : r ≡ row_of (of_code (get_or s at 0)) (get_or s at 0) (drop (at + 1) s)) where
+      here : r ∷ rows (at + size) size s ≡ rows at size s
+      here = ap (λ (x : Row). x ∷ rows (at + size) size s) er ∙ sym (rows_next size h s at g)
 
       pub row_within : n ≤ length l → p.at + length (files_from p.number (r ∷ [])) ≤ length l
-      row_within k = omega (arith, fewer p.number r (rows 0 size (drop size s)), ap (λ (rs : List Row). length (files_from p.number rs)) here)
+      row_within k = omega (arith, fewer p.number r (rows (at + size) size s), ap (λ (rs : List Row). length (files_from p.number rs)) here)
 
-      module _ (q : Turn) (m : List (List ℕ)) (w : Turned l p r q m) (rest : List ℕ) (f : rest ≡ drop size s) where
-        there : r ∷ rows 0 size rest ≡ rows 0 size s
-        there = ap (λ (x : List ℕ). r ∷ rows 0 size x) f ∙ here
+      module _ (q : Turn) (m : List (List ℕ)) (w : Turned l p r q m) where
+        pub left_turn : lay m q.at (files_from q.number (rows (at + size) size s)) ≡ whole
+        left_turn = w.left (rows (at + size) size s) ∙ ap (λ (rs : List Row). lay l p.at (files_from p.number rs)) here ∙ left
 
-        pub left_turn : lay m q.at (files_from q.number (rows 0 size rest)) ≡ whole
-        left_turn = w.left (rows 0 size rest) ∙ ap (λ (rs : List Row). lay l p.at (files_from p.number rs)) there ∙ left
-
-        pub files_turn : q.at + length (files_from q.number (rows 0 size rest)) ≡ n
-        files_turn = omega (arith, w.files (rows 0 size rest), ap (λ (rs : List Row). length (files_from p.number rs)) there)
+        pub files_turn : q.at + length (files_from q.number (rows (at + size) size s)) ≡ n
+        files_turn = w.files (rows (at + size) size s) ∙ ap (λ (rs : List Row). p.at + length (files_from p.number rs)) here ∙ files
 
         pub room_turn : n ≤ length l → n ≤ length m
         room_turn k = omega (arith, w.kept)
 
-        shorter : length rest + 1 ≤ length s
-        shorter =
-            let i : length rest ≡ length (drop size s) = ap length f in
-            let j : length (drop size s) + 1 ≤ length s = simp length-drop (omega arith) in
-            omega arith
+        pub number_turn : p.number ≤ at + 1 → q.number ≤ at + size + 1
+        number_turn k = omega (arith, w.small at k)
 
-        pub rest_fewer : length rest < length s
-        rest_fewer = omega (arith, shorter)
-
-        pub short_turn : length s ≤ 65535 → length rest ≤ 65535
-        short_turn k = omega (arith, shorter)
-
-        pub number_turn : length s ≤ 65535 → p.number + length s ≤ 65536 → q.number + length rest ≤ 65536
-        number_turn k i = omega (arith, shorter, w.small (65535 - length s) (omega arith))
+        -- the row was the last
+        pub lay_last : length s ≤ at + size → m ≡ whole
+        lay_last k = lay_ended (at + size) m whole q left_turn k

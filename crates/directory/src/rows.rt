@@ -1,5 +1,5 @@
 // The rows of a file directory, in two passes: one judges them and counts the files, the other lays the files over the output.
-ghost use Rattle.std.specs.Prelude.{◌≡◌, [], ◌∷◌, ◌+◌, ◌<◌, ◌≤◌, length, drop};
+ghost use Rattle.std.specs.Prelude.{◌≡◌, [], ◌∷◌, ◌+◌, ◌<◌, ◌≤◌, length, drop, get_or};
 ghost use Rattle.file_type.specs.Table.{of_code};
 ghost use Rattle.directory_row.specs.Row.{row_of};
 ghost use Rattle.directory.specs.Passes.{count_from, lay, Turned};
@@ -8,17 +8,13 @@ ghost use Rattle.directory.specs.Rows.{rows, files_from};
 use directory_row::Row;
 use file_type::FileType;
 
-// The bytes from a place on.
-fn from(bytes: &[u8], at: usize) -> &[u8]
-    ensures { result.now ≡ drop at bytes.now }
+// What the row at a place says.
+fn row_at(bytes: &[u8], at: usize) -> Row
+    requires { at < length bytes.now }
+    ensures { result ≡ row_of (of_code (get_or bytes.now at 0)) (get_or bytes.now at 0) (drop (at + 1) bytes.now) }
 {
-    &bytes[at.min(bytes.len())..]
-}
-
-// What the row at the first of these bytes says.
-fn first_row(code: u8, row: &[u8]) -> Row
-    ensures { result ≡ row_of (of_code code) code (drop 1 row.now) }
-{
+    let row = &bytes[at..];
+    let code = row[0];
     match FileType::from_code(code) {
         Some(t) => directory_row::file_row(row, 1, t),
         None => directory_row::other_row(code),
@@ -44,10 +40,8 @@ pub fn count_files(first: usize, size: usize, bytes: &[u8]) -> Option<usize>
     ensures { result ≡ count_from 0 (rows first size bytes.now) }
 {
     let mut n = 0;
-    let mut rest = from(bytes, first);
-    while let [code, ..] = rest {
-        n = count_row(n, first_row(*code, rest))?;
-        rest = from(rest, size);
+    for at in (first..bytes.len()).step_by(size) {
+        n = count_row(n, row_at(bytes, at))?;
     }
     Some(n)
 }
@@ -66,8 +60,12 @@ fn lay_row(out: &mut [[u32; 4]], p: Turn, row: Row) -> Turn
     match row {
         Row::File(t, size) => {
             let number = directory_row::number_of(t, p.number);
-            let elements = directory_row::elements(t, size);
-            out[p.at] = [u32::from(t.code()), number, elements, u32::from(size)];
+            out[p.at] = [
+                u32::from(t.code()),
+                number,
+                directory_row::elements(t, size),
+                u32::from(size),
+            ];
             Turn {
                 at: p.at + 1,
                 number: number + 1,
@@ -86,11 +84,11 @@ pub fn lay_files(first: usize, size: usize, bytes: &[u8], n: usize, out: &mut [[
     requires { (length bytes.now ≤ 65535) × (0 < size) × (n ≡ length (files_from 0 (rows first size bytes.now))) × (n ≤ length out.old) }
     ensures { out.new ≡ lay out.old 0 (files_from 0 (rows first size bytes.now)) }
 {
-    let mut rest = from(bytes, first);
     let mut p = Turn { at: 0, number: 0 };
-    while p.at < n {
-        let [code, ..] = rest else { return };
-        p = lay_row(out, p, first_row(*code, rest));
-        rest = from(rest, size);
+    for at in (first..bytes.len()).step_by(size) {
+        if n <= p.at {
+            break;
+        }
+        p = lay_row(out, p, row_at(bytes, at));
     }
 }

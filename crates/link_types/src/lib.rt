@@ -41,8 +41,13 @@ fn name_record(name: &str) -> SlcName
     requires { length name.now ≤ 3 }
     ensures { result ≡ name_record name.now }
 {
-    let mut text = [0u8; 3];
-    text[..name.len()].copy_from_slice(name.as_bytes());
+    // by bytes: a text that `copy_from_slice` lays in parts and the record then reads whole keeps the processor waiting
+    let text = match name.as_bytes() {
+        [a, b, c] => [*a, *b, *c],
+        [a, b] => [*a, *b, 0],
+        [a] => [*a, 0, 0],
+        _ => [0; 3],
+    };
     SlcName {
         len: name.len() as u8,
         text,
