@@ -77,6 +77,7 @@ pub fn address_record(r: Result<Address, Refusal>) -> SlcAddress
     }
 }
 
+// Out of line the record would be stored for this and read back.
 #[inline]
 pub fn request_record(r: Result<(Address, usize), Refusal>) -> SlcRequest
     ensures { result ≡ request_record r }
